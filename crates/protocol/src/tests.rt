@@ -2,7 +2,10 @@ use crate::messages::Message;
 use crate::messages::Step;
 use crate::messages::Subject;
 use crate::refusals::Refusal;
+use crate::refusals::RefusalDisplay;
 use crate::votes::Ballot;
+use crate::votes::BallotDebug;
+use crate::votes::BallotPartialEq;
 use std::test::*;
 
 #[test]
