@@ -1,28 +1,28 @@
 -- When two messages are equal, and what the parts of a made one are. Assumes nothing.
-use mathlib.Core.Path.{_≡_, refl, sym, ap, subst, _∙_}
-use mathlib.Core.Bool.{true}
-use Prim.Native.Nat.{ℕ, _%_, _<_}
+use mathlib.Core.Path.{_≡_, refl, sym}
+use mathlib.Core.HLevel.{isProp→PathP}
+use Prim.Native.Nat.{ℕ, suc, _<_}
 use native.Mathlib.Bridge.{le-prop}
 use native.Mathlib.Nat.{mod-eq-of-lt}
-use Rattle.std.specs.declared.result.Result.{Result}
-use Rattle.std.specs.declared.result.Result.the-variants.{Ok, Err}
+use Rattle.std.specs.declared.result.Result.the-variants.{Ok}
 use Rattle.std.proofs.shelf.Tests.{cond-true, and-from, lt-ltb}
 use Rattle.protocol.specs.declared.messages.Message.{Message}
 use Rattle.protocol.specs.declared.messages.Step.{Step}
 use Rattle.protocol.specs.declared.messages.Subject.{Subject}
 use Rattle.protocol.specs.Messages.{message, made}
 
-abbrev with-ends : (s a : ℕ) → s < 16 → a < 16 → Message → Message
-with-ends s a p q m = record { sender = s; addressee = a; step = m .step; subject = m .subject; body = m .body; sent = p; addressed = q }
-
 -- messages with equal parts are equal
 pub same-parts : (m n : Message) → m .sender ≡ n .sender → m .addressee ≡ n .addressee → m .step ≡ n .step → m .subject ≡ n .subject → m .body ≡ n .body → m ≡ n
-same-parts m n from to step subject body =
-    subst (λ (s : ℕ). (h : s < 16) → m ≡ with-ends s (m .addressee) h (m .addressed) m) from
-    (λ h. ap (λ (p : m .sender < 16). with-ends (m .sender) (m .addressee) p (m .addressed) m) (le-prop (m .sent) h)) (n .sent)
-    ∙ subst (λ (a : ℕ). (h : a < 16) → with-ends (n .sender) (m .addressee) (n .sent) (m .addressed) m ≡ with-ends (n .sender) a (n .sent) h m) to
-    (λ h. ap (λ (q : m .addressee < 16). with-ends (n .sender) (m .addressee) (n .sent) q m) (le-prop (m .addressed) h)) (n .addressed)
-    ∙ (λ i. record { sender = n .sender; addressee = n .addressee; step = step i; subject = subject i; body = body i; sent = n .sent; addressed = n .addressed })
+same-parts m n from to step subject body = λ i.
+    record {
+      sender = from i;
+      addressee = to i;
+      step = step i;
+      subject = subject i;
+      body = body i;
+      sent = isProp→PathP (λ j. from j < 16) (λ j. le-prop {n = suc (from j)} {m = 16}) (m .sent) (n .sent) i;
+      addressed = isProp→PathP (λ j. to j < 16) (λ j. le-prop {n = suc (to j)} {m = 16}) (m .addressed) (n .addressed) i;
+    }
 
 module _ (s a : ℕ) (step : Step) (subject : Subject) (body : ℕ) where
   pub sender-of : s < 16 → message s a step subject body .sender ≡ s
