@@ -123,3 +123,7 @@ marked-count (suc n) m h =
     let rest = marked-count n (m % 2 ^ n) (mod-lt m (pow-pos n)) in
     let top = one-bit (m / 2 ^ n) (div-lt-iff-lt-mul (pow-pos n) .1 (omega (arith, pow-suc 2 n))) in
     omega (arith, below-suc n (marked m), alike, rest, top, ones-split m n)
+
+-- a set of few bits has few members
+pub few-marked : (n t m : ℕ) → m < 2 ^ n → ones m ≤ t → below n (marked m) ≤ t
+few-marked n t m inside few = omega (arith, marked-count n m inside)

@@ -3,6 +3,7 @@ ghost use Prim.Native.Nat.{_^_, _≤_, _<_};
 ghost use lib.Count.{ones};
 use crate::plans::Plan;
 
+pub mod lines;
 pub mod methods;
 
 // Here processes are marked faulty. The others are correct. Opening uses the draft up.

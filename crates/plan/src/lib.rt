@@ -7,3 +7,6 @@ pub use drafts::Line;
 pub use plans::Needs;
 pub use plans::Plan;
 pub use plans::Thresholds;
+
+#[cfg(test)]
+mod tests;

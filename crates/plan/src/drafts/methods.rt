@@ -1,15 +1,14 @@
-// Marking faulty processes, and asking which are.
+// Marking processes as faulty.
 ghost use mathlib.Core.Path.{_≡_};
 ghost use mathlib.Core.Bool.{true};
-ghost use Prim.Native.Nat.{ℕ, _<_};
+ghost use Prim.Native.Nat.{_<_};
 ghost use Rattle.plan.specs.Marks.{marked, markAnswer, marksAfter, Adds};
 use crate::drafts::Draft;
-use crate::drafts::Line;
 use crate::plans::Plan;
 use protocol::Refusal;
 
 // Whether the bit of a process is set.
-fn is_marked(marks: u16, process: u64) -> bool
+pub(crate) fn is_marked(marks: u16, process: u64) -> bool
     ensures { λ r. ⌜ r ≡ marked marks process ⌝ }
 {
     process < 16 && (marks >> process) & 1 == 1
@@ -40,35 +39,11 @@ impl Draft {
         if process >= self.plan.n() {
             return Err(Refusal::ProcessOutOfRange);
         }
-        if is_marked(self.marks, process) || u64::from(self.marks.count_ones()) >= self.plan.t() {
+        if self.is_faulty(process) || u64::from(self.marks.count_ones()) >= self.plan.t() {
             return Err(Refusal::MarkRefused);
         }
         self.marks |= 1 << process;
         Ok(())
-    }
-
-    pub fn is_faulty(&self, process: u64) -> bool
-        ensures value { λ r. ⌜ r ≡ marked (now (self .entry) .marks) process ⌝ }
-        ensures within { λ r. ⌜ (r ≡ true → process < now (self .entry) .plan .n) ⌝ }
-    {
-        is_marked(self.marks, process)
-    }
-}
-
-impl Line {
-    // The line that a draft becomes. Opening calls it once memory and carrier are ready.
-    pub fn from_draft(draft: Draft) -> Line
-        ensures plan { λ r. ⌜ r .plan ≡ draft .plan ⌝ }
-        ensures marks { λ r. ⌜ r .marks ≡ draft .marks ⌝ }
-    {
-        let Draft { plan, marks } = draft;
-        Line { plan, marks }
-    }
-
-    pub fn plan(&self) -> Plan
-        ensures { λ r. ⌜ r ≡ now (self .entry) .plan ⌝ }
-    {
-        self.plan
     }
 
     pub fn is_faulty(&self, process: u64) -> bool

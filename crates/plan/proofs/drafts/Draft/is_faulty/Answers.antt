@@ -1,10 +1,6 @@
-use mathlib.Core.Path.{sym, _∙_}
+use borrow.Author.Needs.{needs}
 use Rattle.plan.proofs.Marked.{marked-inside}
 use Rattle.plan.proofs.drafts.Draft.is_faulty.Needs as need
 
 pub returns : need.returns
-returns c =
-    record {
-      value = c .is-marked .ensures;
-      within = λ set. marked-inside _ _ _ (c .args .self .now .inside) (sym (c .is-marked .ensures) ∙ set);
-    }
+returns c = search (needs, marked-inside)

@@ -20,7 +20,7 @@ ghost-self c =
     let draft = c .args .self .now in
     let i = c .args .process in
     let e = sym (one-shl i 16 (omega (arith, draft .plan .few))) in
-    let clear = sym (c .is-marked .ensures) ∙ c .if-is-marked .left in (
+    let clear = sym (c .is-faulty .ensures .value) ∙ c .if-is-faulty .left in (
       subst (λ (x : ℕ). ones (bitOr (draft .marks) x) ≤ draft .plan .t) e (omega (arith, set-ones (draft .marks) i clear)),
       (subst (λ (x : ℕ). bitOr (draft .marks) x < 2 ^ draft .plan .n) e (set-inside _ (draft .marks) i (draft .inside) (omega arith)), tt),
     )
@@ -31,7 +31,7 @@ returns c =
     let m = draft .marks in
     let i = c .args .process in
     let e = one-shl i 16 (omega (arith, draft .plan .few)) in
-    let clear = sym (c .is-marked .ensures) ∙ c .if-is-marked .left in
+    let clear = sym (c .is-faulty .ensures .value) ∙ c .if-is-faulty .left in
     let answer : Ok tt ≡ markAnswer (draft .plan) m i =
     sym
     (cond-false (leb (draft .plan .n) i) _ _ (lt-leb (draft .plan .n) i (omega arith))
