@@ -4,7 +4,7 @@ ghost use Prim.Native.Nat.{_<_};
 pub mod methods;
 
 // What a message is about to do for its subject: begin the broadcast, repeat it, or commit to it.
-#[derive(Clone, Copy, Debug, PartialEq, Eq)]
+#[derive(Clone, Copy)]
 pub enum Step {
     Initial,
     Echo,
@@ -12,7 +12,7 @@ pub enum Step {
 }
 
 // What a broadcast is of: an announced item, or the ballot of one round of a case. A subject may lie outside every plan.
-#[derive(Clone, Copy, Debug, PartialEq, Eq)]
+#[derive(Clone, Copy)]
 pub enum Subject {
     Item {
         originator: u64,
@@ -26,7 +26,7 @@ pub enum Subject {
 }
 
 // One message from a process to another or to itself.
-#[derive(Clone, Copy, Debug)]
+#[derive(Clone, Copy)]
 pub struct Message {
     sender: u8,
     addressee: u8,
