@@ -3,7 +3,7 @@ ghost use Prim.Native.Nat.{_<_};
 
 pub mod methods;
 
-// What a message is about to do for its subject: begin the broadcast, repeat it, or commit to it.
+// Where a broadcast stands for the sender: it begins it, repeats what was begun, or commits to it.
 #[derive(Clone, Copy)]
 pub enum Step {
     Initial,
