@@ -1,0 +1,4 @@
+pub mod Bounds
+pub mod Marked
+pub mod Pairs
+pub mod Table

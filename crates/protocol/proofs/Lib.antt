@@ -1,0 +1,3 @@
+pub mod Bags
+pub mod Counting
+pub mod Parts

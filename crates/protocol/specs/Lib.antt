@@ -1,0 +1,5 @@
+pub mod Bags
+pub mod Counting
+pub mod Messages
+pub mod Numbers
+pub mod Refusals
