@@ -1,0 +1,9 @@
+mod Walk
+mod MarksLoop
+mod Machine
+mod Digits
+mod PartLaws
+mod Values
+mod Commands
+mod Cuts
+mod Theorems

@@ -1,0 +1,3 @@
+pub mod Grammar
+pub mod Exact
+pub mod Reads
