@@ -1,9 +1,1 @@
-mod Walk
 mod MarksLoop
-mod Machine
-mod Digits
-mod PartLaws
-mod Values
-mod Commands
-mod Cuts
-mod Theorems

@@ -11,11 +11,11 @@ use borrow.Author.Tests.{lt-ltb}
 use Rattle.std.proofs.shelf.Lists.{set-at}
 use Rattle.std.specs.declared.result.Result.the-variants.{Ok, Err}
 use Rattle.token.specs.declared.cursor.Cursor.{Cursor}
-use Rattle.reader.specs.declared.fault.FormFault.{FormFault}
+use Rattle.grammar.specs.declared.fault.FormFault.{FormFault}
 use Rattle.form.specs.declared.forms.Marks.{Marks}
-use Rattle.reader.specs.Grammar.{Shape, another, number, word, marks, allMarks}
+use Rattle.grammar.specs.Grammar.{Shape, another, number, word, marks, allMarks}
 use Rattle.form.specs.Marks.{stored, added, roomFor}
-use Rattle.reader.specs.Reads.{ahead, Reads}
+use Rattle.grammar.specs.Reads.{ahead, Reads}
 
 stored-more : (ms : List ℕ) (m : ℕ) → length ms < 16 → added (stored ms) m ≡ stored (ms ++ m ∷ [])
 stored-more ms m h =

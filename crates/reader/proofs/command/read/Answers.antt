@@ -1,6 +1,6 @@
 use mathlib.Core.Path.{sym, subst}
-use Rattle.reader.specs.Exact.{Exact, Faults}
-use Rattle.reader.proofs.Theorems.{exact, faults}
+use Rattle.grammar.specs.Exact.{Exact, Faults}
+use Rattle.grammar.proofs.Theorems.{exact, faults}
 use Rattle.reader.proofs.command.read.Needs as need
 
 pub returns : need.returns

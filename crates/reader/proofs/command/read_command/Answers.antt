@@ -8,11 +8,11 @@ use Rattle.std.specs.declared.result.Result.the-variants.{Err}
 use Rattle.std.specs.shelf.Text.{sameBytes}
 use Rattle.token.specs.declared.cursor.Cursor.{Cursor}
 use Rattle.token.specs.Scan.{here}
-use Rattle.reader.specs.declared.fault.FormFault.{FormFault}
-use Rattle.reader.specs.declared.fault.FormFault.the-variants.{Unexpected}
+use Rattle.grammar.specs.declared.fault.FormFault.{FormFault}
+use Rattle.grammar.specs.declared.fault.FormFault.the-variants.{Unexpected}
 use Rattle.form.specs.declared.forms.Form.{Form}
-use Rattle.reader.specs.Grammar.{Shape, known, commands, named, command, line, announce, opening, forge, deliver, advance}
-use Rattle.reader.specs.Reads.{ahead}
+use Rattle.grammar.specs.Grammar.{Shape, known, commands, named, command, line, announce, opening, forge, deliver, advance}
+use Rattle.grammar.specs.Reads.{ahead}
 use Rattle.reader.proofs.command.read_command.Needs as need
 
 -- the six tests of the word, each known

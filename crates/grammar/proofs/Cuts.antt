@@ -17,9 +17,9 @@ use Rattle.form.specs.declared.forms.Form.{Form}
 use Rattle.form.specs.declared.forms.Form.the-variants.{Line, Announce, Open as Opening, Forge, Deliver, Advance}
 use Rattle.form.specs.Format.{Fits64, SubjectFits, FormFits, stepped, marked, subjected, written}
 use Rattle.form.specs.Marks.{listed}
-use Rattle.reader.proofs.Commands.{tokens}
-use Rattle.reader.proofs.Digits.{pieces-decimal}
-use Rattle.reader.proofs.Values.{subject-tokens, mark-tokens}
+use Rattle.grammar.proofs.Commands.{tokens}
+use Rattle.grammar.proofs.Digits.{pieces-decimal}
+use Rattle.grammar.proofs.Values.{subject-tokens, mark-tokens}
 
 -- a number before a bracket
 closed : (n : ℕ) (rest : List ℕ) → Fits64 n → pieces (decimal n ++ (codes ")" ++ rest)) ≡ decimal n ∷ codes ")" ∷ pieces rest

@@ -1,6 +1,6 @@
 use Rattle.std.proofs.shelf.Results.{err-from-errBy}
-use Rattle.reader.proofs.Walk.{pull-fault, ends-none, ends-some}
-use Rattle.reader.proofs.parts.finish.Needs as need
+use Rattle.grammar.proofs.Walk.{pull-fault, ends-none, ends-some}
+use Rattle.grammar.proofs.parts.finish.Needs as need
 
 pub returns-in-Break-next : need.returns-in-Break-next
 returns-in-Break-next c =

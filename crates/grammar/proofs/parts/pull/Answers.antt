@@ -1,6 +1,6 @@
 use Rattle.std.proofs.shelf.Results.{err-from-errBy}
-use Rattle.reader.proofs.Walk.{pull-fault, pulled-none, after-token}
-use Rattle.reader.proofs.parts.pull.Needs as need
+use Rattle.grammar.proofs.Walk.{pull-fault, pulled-none, after-token}
+use Rattle.grammar.proofs.parts.pull.Needs as need
 
 pub returns-in-Break-token : need.returns-in-Break-token
 returns-in-Break-token c =

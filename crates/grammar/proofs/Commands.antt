@@ -11,11 +11,11 @@ use Rattle.form.specs.declared.forms.Form.{Form}
 use Rattle.form.specs.declared.forms.Form.the-variants.{Line, Announce, Open as Opening, Forge, Deliver, Advance}
 use Rattle.form.specs.declared.forms.Marks.{Marks}
 use Rattle.form.specs.Format.{Fits64, FormFits, stepped}
-use Rattle.reader.specs.Grammar.{Shape, done, word, field, commands, command, line, announce, opening, forge, deliver, advance, form, allMarks}
+use Rattle.grammar.specs.Grammar.{Shape, done, word, field, commands, command, line, announce, opening, forge, deliver, advance, form, allMarks}
 use Rattle.form.specs.Marks.{listed}
-use Rattle.reader.proofs.Machine.{good, Yields, Live}
-use Rattle.reader.proofs.PartLaws.{Part, Branch, Offered, fielded, field-part, behind, ahead, both, both-free, branch, choice}
-use Rattle.reader.proofs.Values.{step-part, subject-part, subject-tokens, mark-tokens, strange-part}
+use Rattle.grammar.proofs.Machine.{good, Yields, Live}
+use Rattle.grammar.proofs.PartLaws.{Part, Branch, Offered, fielded, field-part, behind, ahead, both, both-free, branch, choice}
+use Rattle.grammar.proofs.Values.{step-part, subject-part, subject-tokens, mark-tokens, strange-part}
 
 -- the word of a form, and the tokens behind it
 abbrev named : Form → List ℕ

@@ -13,9 +13,9 @@ use Rattle.std.specs.shelf.Text.{sameBytes}
 use Rattle.token.specs.Tokens.{worth}
 use Rattle.form.specs.declared.forms.Form.{Form}
 use Rattle.form.specs.Format.{Fits64}
-use Rattle.reader.specs.Grammar.{Shape, next, word, number, arg, field, known}
-use Rattle.reader.proofs.Machine.{good, Yields, Live}
-use Rattle.reader.proofs.Digits.{number-is, good-decimal, digit-decimal, worth-decimal}
+use Rattle.grammar.specs.Grammar.{Shape, next, word, number, arg, field, known}
+use Rattle.grammar.proofs.Machine.{good, Yields, Live}
+use Rattle.grammar.proofs.Digits.{number-is, good-decimal, digit-decimal, worth-decimal}
 
 -- A part of the grammar reads the values a that fit, in the tokens that spell gives, and hands them on as name a.
 pub record Part {A B : Type 0} (part : (B → Shape) → Shape) (name : A → B) (Fit : A → Type 0) (spell : A → List (List ℕ) → List (List ℕ)) : Type 0 where

@@ -1,5 +1,5 @@
 ghost use mathlib.Core.Path.{_≡_};
-ghost use Rattle.reader.specs.declared.fault.FormFault.the-variants.{Token};
+ghost use Rattle.grammar.specs.declared.fault.FormFault.the-variants.{Token};
 use token::Place;
 use token::TokenFault;
 

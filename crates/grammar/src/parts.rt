@@ -1,6 +1,6 @@
 ghost use mathlib.Core.Path.{_≡_};
-ghost use Rattle.reader.specs.Grammar.{Shape, word, number, arg, field};
-ghost use Rattle.reader.specs.Reads.{Pulled, Reads, Ends};
+ghost use Rattle.grammar.specs.Grammar.{Shape, word, number, arg, field};
+ghost use Rattle.grammar.specs.Reads.{Pulled, Reads, Ends};
 use crate::fault::FormFault;
 use crate::fault::FormFaultFromToken;
 use form::Form;
@@ -9,7 +9,7 @@ use token::Token;
 use token::same_bytes;
 
 // The next token, which has to be there.
-pub(crate) fn pull<'a>(cursor: &mut Cursor<'a>) -> Result<Token<'a>, FormFault>
+pub fn pull<'a>(cursor: &mut Cursor<'a>) -> Result<Token<'a>, FormFault>
     ensures { λ r. ⌜ Pulled (now (cursor .entry)) (now (cursor .exit)) r ⌝ }
 {
     let place = cursor.place();
@@ -20,7 +20,7 @@ pub(crate) fn pull<'a>(cursor: &mut Cursor<'a>) -> Result<Token<'a>, FormFault>
 }
 
 // The end of the line behind a whole form.
-pub(crate) fn finish(cursor: &mut Cursor<'_>, form: Form) -> Result<Form, FormFault>
+pub fn finish(cursor: &mut Cursor<'_>, form: Form) -> Result<Form, FormFault>
     ensures { λ r. ⌜ Ends (now (cursor .entry)) form r ⌝ }
 {
     let place = cursor.place();
@@ -31,7 +31,7 @@ pub(crate) fn finish(cursor: &mut Cursor<'_>, form: Form) -> Result<Form, FormFa
 }
 
 // A token of these bytes.
-pub(crate) fn expect(cursor: &mut Cursor<'_>, bytes: &[u8]) -> Result<(), FormFault>
+pub fn expect(cursor: &mut Cursor<'_>, bytes: &[u8]) -> Result<(), FormFault>
     ensures { λ r. ⌜ Reads (now (cursor .entry)) (now (cursor .exit)) r (word (now (bytes .entry))) ⌝ }
 {
     let place = cursor.place();
@@ -43,7 +43,7 @@ pub(crate) fn expect(cursor: &mut Cursor<'_>, bytes: &[u8]) -> Result<(), FormFa
 }
 
 // A number.
-pub(crate) fn read_number(cursor: &mut Cursor<'_>) -> Result<u64, FormFault>
+pub fn read_number(cursor: &mut Cursor<'_>) -> Result<u64, FormFault>
     ensures { λ r. ⌜ Reads (now (cursor .entry)) (now (cursor .exit)) r number ⌝ }
 {
     let place = cursor.place();
@@ -54,7 +54,7 @@ pub(crate) fn read_number(cursor: &mut Cursor<'_>) -> Result<u64, FormFault>
 }
 
 // A space and a number.
-pub(crate) fn read_arg(cursor: &mut Cursor<'_>) -> Result<u64, FormFault>
+pub fn read_arg(cursor: &mut Cursor<'_>) -> Result<u64, FormFault>
     ensures { λ r. ⌜ Reads (now (cursor .entry)) (now (cursor .exit)) r arg ⌝ }
 {
     expect(cursor, b" ")?;
@@ -62,7 +62,7 @@ pub(crate) fn read_arg(cursor: &mut Cursor<'_>) -> Result<u64, FormFault>
 }
 
 // A space and a bracketed name with its number.
-pub(crate) fn read_field(cursor: &mut Cursor<'_>, name: &[u8]) -> Result<u64, FormFault>
+pub fn read_field(cursor: &mut Cursor<'_>, name: &[u8]) -> Result<u64, FormFault>
     ensures { λ r. ⌜ Reads (now (cursor .entry)) (now (cursor .exit)) r (field (now (name .entry))) ⌝ }
 {
     expect(cursor, b" ")?;

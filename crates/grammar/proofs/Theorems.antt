@@ -8,12 +8,12 @@ use Rattle.token.specs.declared.fault.Place.{Place}
 use Rattle.token.specs.Tokens.{pieces}
 use Rattle.form.specs.declared.forms.Form.{Form}
 use Rattle.form.specs.Format.{FormFits, written}
-use Rattle.reader.specs.Exact.{Exact, Faults}
-use Rattle.reader.specs.Grammar.{form, reading}
-use Rattle.reader.proofs.Commands.{form-read, form-made, form-live}
-use Rattle.reader.proofs.Cuts.{pieces-written}
-use Rattle.reader.proofs.Digits.{joined-pieces, plain-pieces}
-use Rattle.reader.proofs.Machine.{Yields, yields-from-run, stops-from-run, run-from-yields}
+use Rattle.grammar.specs.Exact.{Exact, Faults}
+use Rattle.grammar.specs.Grammar.{form, reading}
+use Rattle.grammar.proofs.Commands.{form-read, form-made, form-live}
+use Rattle.grammar.proofs.Cuts.{pieces-written}
+use Rattle.grammar.proofs.Digits.{joined-pieces, plain-pieces}
+use Rattle.grammar.proofs.Machine.{Yields, yields-from-run, stops-from-run, run-from-yields}
 
 -- a form is yielded by just the tokens of its text
 text-yields : (ps : List (List ℕ)) (f : Form) → FormFits f → pieces (written f) ≡ ps → Yields form ps f

@@ -12,9 +12,9 @@ use Rattle.token.specs.declared.fault.Place.{Place}
 use Rattle.token.specs.Tokens.{pieces}
 use Rattle.form.specs.declared.forms.Form.{Form}
 use Rattle.form.specs.Format.{written, FormFits}
-use Rattle.reader.specs.declared.fault.FormFault.{FormFault}
-use Rattle.reader.specs.declared.fault.FormFault.the-variants.{Unexpected}
-use Rattle.reader.specs.Grammar.{misplaced}
+use Rattle.grammar.specs.declared.fault.FormFault.{FormFault}
+use Rattle.grammar.specs.declared.fault.FormFault.the-variants.{Unexpected}
+use Rattle.grammar.specs.Grammar.{misplaced}
 
 -- The answer r to the text s is a form exactly where s is what writing that form gives.
 pub record Exact (s : List ℕ) (r : Result Form FormFault) : Type 0 where

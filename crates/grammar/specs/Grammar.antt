@@ -16,8 +16,8 @@ use Rattle.token.specs.declared.fault.Place.{Place}
 use Rattle.token.specs.declared.fault.TokenFault.{TokenFault}
 use Rattle.token.specs.Scan.{onward}
 use Rattle.token.specs.Tokens.{pieces, lawful, worth}
-use Rattle.reader.specs.declared.fault.FormFault.{FormFault}
-use Rattle.reader.specs.declared.fault.FormFault.the-variants.{Token, Unexpected}
+use Rattle.grammar.specs.declared.fault.FormFault.{FormFault}
+use Rattle.grammar.specs.declared.fault.FormFault.the-variants.{Token, Unexpected}
 use Rattle.form.specs.declared.forms.Form.{Form}
 use Rattle.form.specs.declared.forms.Form.the-variants.{Line, Announce, Open as Opening, Forge, Deliver, Advance}
 use Rattle.form.specs.declared.forms.Marks.{Marks}

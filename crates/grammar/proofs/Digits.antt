@@ -18,7 +18,7 @@ use Rattle.std.specs.shelf.Text.{allDigits}
 use Rattle.token.proofs.Pieces.{pieces-on, pieces-apart}
 use Rattle.token.specs.Tokens.{joins, front, behind, lead, pieces, worthAfter, worth}
 use Rattle.form.specs.Format.{Fits64}
-use Rattle.reader.proofs.Machine.{plain, good}
+use Rattle.grammar.proofs.Machine.{plain, good}
 
 -- a byte in front of tokens
 joined-before : (b : ℕ) (ps : List (List ℕ)) (t : Bool) → joined (cond t ((b ∷ front ps) ∷ behind ps) ((b ∷ []) ∷ ps)) ≡ b ∷ joined ps

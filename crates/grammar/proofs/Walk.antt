@@ -15,11 +15,11 @@ use Rattle.token.specs.declared.fault.TokenFault.{TokenFault}
 use Rattle.token.specs.declared.lex.Token.{Token as Lexeme}
 use Rattle.token.specs.Scan.{left, here, onward, scanned, spelled, Apt, taken, remaining}
 use Rattle.token.specs.Tokens.{behind, lawful, spelling}
-use Rattle.reader.specs.declared.fault.FormFault.{FormFault}
-use Rattle.reader.specs.declared.fault.FormFault.the-variants.{Token, Unexpected}
+use Rattle.grammar.specs.declared.fault.FormFault.{FormFault}
+use Rattle.grammar.specs.declared.fault.FormFault.the-variants.{Token, Unexpected}
 use Rattle.form.specs.declared.forms.Form.{Form}
-use Rattle.reader.specs.Grammar.{Shape, done, next, run}
-use Rattle.reader.specs.Reads.{ahead, Pulled, Ends}
+use Rattle.grammar.specs.Grammar.{Shape, done, next, run}
+use Rattle.grammar.specs.Reads.{ahead, Pulled, Ends}
 
 -- a test on the first token, once it is known
 abbrev choice : Bool → Place → List ℕ → Result (Option (List ℕ)) TokenFault

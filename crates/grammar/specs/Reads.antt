@@ -9,10 +9,10 @@ use Rattle.token.specs.declared.cursor.Cursor.{Cursor}
 use Rattle.token.specs.declared.lex.Token.{Token}
 use Rattle.token.specs.Scan.{left, here}
 use Rattle.token.specs.Tokens.{spelling, Suits}
-use Rattle.reader.specs.declared.fault.FormFault.{FormFault}
-use Rattle.reader.specs.declared.fault.FormFault.the-variants.{Unexpected}
+use Rattle.grammar.specs.declared.fault.FormFault.{FormFault}
+use Rattle.grammar.specs.declared.fault.FormFault.the-variants.{Unexpected}
 use Rattle.form.specs.declared.forms.Form.{Form}
-use Rattle.reader.specs.Grammar.{Shape, done, next, run}
+use Rattle.grammar.specs.Grammar.{Shape, done, next, run}
 
 -- what a line gives from a cursor on
 abbrev pub ahead : Cursor → Shape → Result Form FormFault

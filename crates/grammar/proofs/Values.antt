@@ -17,10 +17,10 @@ use Rattle.protocol.specs.declared.messages.Subject.{Subject}
 use Rattle.protocol.specs.declared.messages.Subject.the-variants.{Item, Ballot}
 use Rattle.form.specs.declared.forms.Form.{Form}
 use Rattle.form.specs.Format.{Fits64, SubjectFits, MarksFit, stepped}
-use Rattle.reader.specs.Grammar.{Shape, number, marks, step, item, ballot, subject}
+use Rattle.grammar.specs.Grammar.{Shape, number, marks, step, item, ballot, subject}
 use Rattle.form.specs.Marks.{listed, stored}
-use Rattle.reader.proofs.Machine.{Yields, Live}
-use Rattle.reader.proofs.PartLaws.{Part, Branch, Offered, number-part, arg-part, behind, ahead, both, branch, choice}
+use Rattle.grammar.proofs.Machine.{Yields, Live}
+use Rattle.grammar.proofs.PartLaws.{Part, Branch, Offered, number-part, arg-part, behind, ahead, both, branch, choice}
 
 abbrev steps : List (List ℕ)
 steps = codes "initial" ∷ codes "echo" ∷ codes "ready" ∷ []

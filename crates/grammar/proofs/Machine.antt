@@ -18,10 +18,10 @@ use Rattle.std.specs.shelf.Text.{allDigits}
 use Rattle.token.specs.declared.fault.Place.{Place}
 use Rattle.token.specs.Scan.{onward}
 use Rattle.token.specs.Tokens.{front, behind, lawful}
-use Rattle.reader.specs.declared.fault.FormFault.{FormFault}
+use Rattle.grammar.specs.declared.fault.FormFault.{FormFault}
 use Rattle.form.specs.declared.forms.Form.{Form}
-use Rattle.reader.specs.Exact.{first, faultAt}
-use Rattle.reader.specs.Grammar.{Shape, done, next, misplaced, run}
+use Rattle.grammar.specs.Exact.{first, faultAt}
+use Rattle.grammar.specs.Grammar.{Shape, done, next, misplaced, run}
 
 -- A token that begins with a digit has digits only. The tokens of a text are so.
 abbrev pub plain : List ℕ → Bool
