@@ -1,0 +1,7 @@
+//! A rehearsal script as a whole: its lines, its faults, and the check of every line.
+mod fault;
+mod linter;
+
+pub use fault::ScriptFault;
+pub use fault::put_fault;
+pub use linter::lint;
