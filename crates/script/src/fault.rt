@@ -25,14 +25,6 @@ pub impl From<FormFault> for ScriptFault as ScriptFaultFromForm {
     }
 }
 
-pub impl From<Refusal> for ScriptFault as ScriptFaultFromRefusal {
-    ghost converts = { λ e r. r ≡ fault.Refused e };
-
-    fn from(refusal: Refusal) -> ScriptFault {
-        ScriptFault::Refused(refusal)
-    }
-}
-
 fn put_place(text: Text, layer: &[u8], place: Place) -> Result<Text, AllocError>
     ensures { λ r. ⌜ made r (λ t. shown t ≡ shown text ++ placed (now (layer .entry)) place) ⌝ }
 {

@@ -5,3 +5,6 @@ mod linter;
 pub use fault::ScriptFault;
 pub use fault::put_fault;
 pub use linter::lint;
+
+#[cfg(test)]
+mod tests;

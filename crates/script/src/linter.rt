@@ -7,7 +7,6 @@ ghost use Rattle.std.specs.Vec.{made};
 ghost use Rattle.text.specs.Shown.{shown};
 use crate::fault::ScriptFault;
 use crate::fault::ScriptFaultFromForm;
-use crate::fault::ScriptFaultFromRefusal;
 use crate::fault::put_fault;
 use form::Form;
 use form::write;
