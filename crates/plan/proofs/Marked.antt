@@ -1,5 +1,5 @@
 -- Laws of a set that is kept as the bits of a number. Assumes nothing.
-use mathlib.Core.Path.{_≡_, refl, sym, ap, subst, _∙_}
+use mathlib.Core.Path.{_≡_, sym, ap, _∙_}
 use mathlib.Core.Logic.{⊎-elim}
 use mathlib.Core.Bool.{Bool, true, false, cond, _||_}
 use Prim.Native.Nat.{ℕ, zero, suc, _+_, _-_, _*_, _/_, _%_, _^_, _≤_, _<_}
@@ -9,7 +9,7 @@ use lib.Bits.{bitOr, or-lt, or-shr, or-mod, or-shifted, or-zero-r}
 use lib.Count.{ones, ones-step, ones-cat}
 use lib.Dec.{eqb, lit<}
 use lib.Pow.{pow-pos, pow-mono, pow-lt, pow-add, shl-shr, split, field, mod-mod-pow}
-use Rattle.std.proofs.shelf.Tests.{eqb-true, eqb-false, eq-eqb, ne-eqb, or-left, cases-lt, cases-eq, cases-order, true≢false}
+use Rattle.std.proofs.shelf.Tests.{eqb-false, eq-eqb, ne-eqb, or-left, cases-lt, cases-eq, cases-order, true≢false}
 use Rattle.protocol.specs.Counting.{below}
 use Rattle.protocol.proofs.Counting.{below-none, below-suc, below-alike}
 use Rattle.plan.specs.Marks.{marked}
@@ -21,11 +21,7 @@ bit m i = m / 2 ^ i % 2
 two-values : (x : ℕ) → x % 2 < 2
 two-values x = omega arith
 
-pub bit-set : (m i : ℕ) → marked m i ≡ true → bit m i ≡ 1
-unfolding marked
-bit-set m i h = eqb-true (bit m i) 1 h
-
-pub bit-clear : (m i : ℕ) → marked m i ≡ false → bit m i ≡ 0
+bit-clear : (m i : ℕ) → marked m i ≡ false → bit m i ≡ 0
 unfolding marked
 bit-clear m i h = let ne = eqb-false (bit m i) 1 h in ⊎-elim (λ e. absurd (ne e)) (λ n. omega (arith, two-values (m / 2 ^ i))) (cases-eq (bit m i) 1)
 

@@ -1,6 +1,5 @@
 use mathlib.Core.Path.{sym}
 use native.Mathlib.Omega.{arith}
-use lib.Dec.{leb, ltb}
 use Rattle.std.proofs.shelf.Ways.{tells}
 use Rattle.plan.proofs.Bounds.{planned-of, planned-not}
 use Rattle.plan.proofs.plans.Plan.new.Needs as need
