@@ -6,4 +6,3 @@ mod writer;
 
 pub use forms::Form;
 pub use forms::Marks;
-pub use writer::write;

@@ -110,48 +110,50 @@ fn put_forge(
         .put(b"))")
 }
 
-/// Adds a form's text to a text.
-pub fn write(text: Text, form: &Form) -> Result<Text, AllocError>
-    ensures { λ r. ⌜ made r (λ t. shown t ≡ shown text ++ written (now (form .entry))) ⌝ }
-{
-    match *form {
-        Form::Line {
-            counters,
-            tolerate,
-            strange,
-        } => put_line(text, counters, tolerate, strange),
-        Form::Announce { counter, tag } => put_pair(
-            text,
-            b"(announce (counter ",
-            counter,
-            b") (tag ",
-            tag,
-        ),
-        Form::Open {
-            counter,
-            case,
-            vote,
-        } => put_open(text, counter, case, vote),
-        Form::Forge {
-            from,
-            to,
-            step,
-            subject,
-            body,
-        } => put_forge(text, from, to, step, subject, body),
-        Form::Deliver { counter, pick } => put_pair(
-            text,
-            b"(deliver (counter ",
-            counter,
-            b") (pick ",
-            pick,
-        ),
-        Form::Advance { counter, case } => put_pair(
-            text,
-            b"(advance (counter ",
-            counter,
-            b") (case ",
-            case,
-        ),
+impl Form {
+    /// Adds the form's text to a text.
+    pub fn write_to(&self, text: Text) -> Result<Text, AllocError>
+        ensures { λ r. ⌜ made r (λ t. shown t ≡ shown text ++ written (now (self .entry))) ⌝ }
+    {
+        match *self {
+            Form::Line {
+                counters,
+                tolerate,
+                strange,
+            } => put_line(text, counters, tolerate, strange),
+            Form::Announce { counter, tag } => put_pair(
+                text,
+                b"(announce (counter ",
+                counter,
+                b") (tag ",
+                tag,
+            ),
+            Form::Open {
+                counter,
+                case,
+                vote,
+            } => put_open(text, counter, case, vote),
+            Form::Forge {
+                from,
+                to,
+                step,
+                subject,
+                body,
+            } => put_forge(text, from, to, step, subject, body),
+            Form::Deliver { counter, pick } => put_pair(
+                text,
+                b"(deliver (counter ",
+                counter,
+                b") (pick ",
+                pick,
+            ),
+            Form::Advance { counter, case } => put_pair(
+                text,
+                b"(advance (counter ",
+                counter,
+                b") (case ",
+                case,
+            ),
+        }
     }
 }

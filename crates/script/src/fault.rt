@@ -53,12 +53,14 @@ fn put_form_fault(text: Text, fault: FormFault) -> Result<Text, AllocError>
     }
 }
 
-/// Adds a fault's text to a text.
-pub fn put_fault(text: Text, fault: ScriptFault) -> Result<Text, AllocError>
-    ensures { λ r. ⌜ made r (λ t. shown t ≡ shown text ++ faultText fault) ⌝ }
-{
-    match fault {
-        ScriptFault::Form(fault) => put_form_fault(text, fault),
-        ScriptFault::Refused(refusal) => put_refusal(text, refusal),
+impl ScriptFault {
+    /// Adds the fault's text to a text.
+    pub fn write_to(self, text: Text) -> Result<Text, AllocError>
+        ensures { λ r. ⌜ made r (λ t. shown t ≡ shown text ++ faultText self) ⌝ }
+    {
+        match self {
+            ScriptFault::Form(fault) => put_form_fault(text, fault),
+            ScriptFault::Refused(refusal) => put_refusal(text, refusal),
+        }
     }
 }

@@ -3,7 +3,6 @@ mod fault;
 mod linter;
 
 pub use fault::ScriptFault;
-pub use fault::put_fault;
 pub use linter::lint;
 
 #[cfg(test)]

@@ -7,9 +7,7 @@ ghost use Rattle.std.specs.Vec.{made};
 ghost use Rattle.text.specs.Shown.{shown};
 use crate::fault::ScriptFault;
 use crate::fault::ScriptFaultFromForm;
-use crate::fault::put_fault;
 use form::Form;
-use form::write;
 use protocol::Refusal;
 use reader::read;
 use std::alloc::AllocError;
@@ -53,8 +51,8 @@ fn lint_line(text: Text, number: u64, line: &[u8]) -> Result<Text, AllocError>
     ensures { λ r. ⌜ made r (λ t. shown t ≡ shown text ++ answer number (now (line .entry))) ⌝ }
 {
     match check_line(number, line) {
-        Ok(form) => write(text, &form),
-        Err(fault) => put_fault(text, fault),
+        Ok(form) => form.write_to(text),
+        Err(fault) => fault.write_to(text),
     }
 }
 
@@ -80,6 +78,6 @@ pub fn lint(heap: Global, input: &[u8]) -> Result<Text, AllocError>
     let text = Text::new(heap);
     match check_size(input) {
         Ok(()) => lint_lines(text, input),
-        Err(fault) => put_fault(text, fault)?.put(b"\n"),
+        Err(fault) => fault.write_to(text)?.put(b"\n"),
     }
 }

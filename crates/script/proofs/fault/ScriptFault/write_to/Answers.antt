@@ -1,6 +1,6 @@
 use Rattle.text.proofs.Chain.{at-arm}
 use Rattle.script.specs.Lint.{faultText}
-use Rattle.script.proofs.fault.put_fault.Needs as need
+use Rattle.script.proofs.fault.ScriptFault.write_to.Needs as need
 
 pub returns-in-Form : need.returns-in-Form
 returns-in-Form c = at-arm faultText (c .put-form-fault .result) _ _ _ (c .in-Form .is) (c .put-form-fault .ensures)

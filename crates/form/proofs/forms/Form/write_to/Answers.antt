@@ -1,6 +1,6 @@
 use Rattle.text.proofs.Chain.{at-arm}
 use Rattle.form.specs.Format.{written}
-use Rattle.form.proofs.writer.write.Needs as need
+use Rattle.form.proofs.forms.Form.write_to.Needs as need
 
 pub returns-in-Line : need.returns-in-Line
 returns-in-Line c = at-arm written (c .put-line .result) _ _ _ (c .in-Line .is) (c .put-line .ensures)
