@@ -1,4 +1,3 @@
-use mathlib.Core.Path.{_∙_}
 use native.Mathlib.Omega.{arith}
 use Rattle.item.proofs.Bodies.{shifted}
 use Rattle.item.proofs.records.methods.RecordItem.pack.Needs as need
@@ -6,10 +5,7 @@ use Rattle.item.proofs.records.methods.RecordItem.pack.Needs as need
 pub returns : need.returns
 returns c =
     let r = c .args .self .now in
-    record {
-      value =
-          shifted (c .kind .result) (c .colour .result) (c .station .result) (c .day .result) (c .shelf .result) (omega arith) (omega arith) (omega arith) (omega arith)
-          (omega arith)
-          ∙ omega arith;
-      fits = tt;
-    }
+    let e =
+    shifted (c .kind .result) (c .colour .result) (c .station .result) (c .day .result) (c .shelf .result) (omega arith) (omega arith) (omega arith) (omega arith)
+    (omega arith) in
+    record { value = omega arith; fits = tt }
