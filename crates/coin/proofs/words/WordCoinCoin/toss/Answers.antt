@@ -1,0 +1,4 @@
+use Rattle.coin.proofs.words.WordCoinCoin.toss.Needs as need
+
+pub returns : need.returns
+returns c = cc (c .toss-for-all .ensures .answer 0)
