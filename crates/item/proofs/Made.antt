@@ -23,7 +23,7 @@ good-part (Ok x) v e = cc
 good-part (Err x) v e = let z : _≡_ {A = ℕ} 0 1 = cc in absurd (omega arith)
 
 -- records with equal fields are equal
-pub same-record : (p q : Record) → p .kind ≡ q .kind → p .colour ≡ q .colour → p .station ≡ q .station → p .day ≡ q .day → p .shelf ≡ q .shelf → p ≡ q
+same-record : (p q : Record) → p .kind ≡ q .kind → p .colour ≡ q .colour → p .station ≡ q .station → p .day ≡ q .day → p .shelf ≡ q .shelf → p ≡ q
 same-record p q kind colour station day shelf = λ i.
     record {
       kind = kind i;

@@ -1,4 +1,4 @@
-// A lost thing's record. Its functions stand in `methods`, since a clause there may cite definitions that name it.
+// The type of a record. Its functions stand in `methods`, since a clause there may cite definitions that name it.
 ghost use Prim.Native.Nat.{_≤_};
 
 pub mod methods;

@@ -5,10 +5,11 @@ use crate::items::Item;
 use crate::records::Record;
 use protocol::Refusal;
 
-const MOST_KINDS: u64 = 40;
+const LAST_KIND: u64 = 40;
 
 const LAST_COLOUR: u64 = 11;
 
+// Of the stations, of the days and of the shelves.
 const LAST: u64 = 0xffff;
 
 impl Record {
@@ -22,7 +23,7 @@ impl Record {
     ) -> Result<Record, Refusal>
         ensures { λ r. ⌜ r ≡ recorded kind colour station day shelf ⌝ }
     {
-        if kind < 1 || kind > MOST_KINDS || colour > LAST_COLOUR {
+        if kind < 1 || kind > LAST_KIND || colour > LAST_COLOUR {
             return Err(Refusal::ValueOutOfRange);
         }
         if station > LAST || day > LAST || shelf > LAST {
