@@ -2,6 +2,7 @@
 use mathlib.Core.Bool.{Bool, false}
 use mathlib.Core.List.{List, [], _∷_, _++_}
 use Prim.Native.Nat.{ℕ}
+use lib.ListN.{take}
 use Rattle.std.specs.declared.option.Option.{Option}
 use Rattle.std.specs.declared.option.Option.the-variants.{Some, None}
 use Rattle.protocol.specs.declared.messages.Message.{Message}
@@ -15,7 +16,10 @@ abbrev pub isFor : ℕ → Option Message → Bool
 isFor process None = false
 isFor process (Some m) = addressed process m
 
--- all messages of the places
-unfoldable pub kept : List (Option Message) → List Message
-kept [] = []
-kept (p ∷ ps) = inPlace p ++ kept ps
+unfoldable pub messages : List (Option Message) → List Message
+messages [] = []
+messages (p ∷ ps) = inPlace p ++ messages ps
+
+-- what a table of 8 places keeps
+abbrev pub kept : List (Option Message) → List Message
+kept ps = messages (take 8 ps)

@@ -1,6 +1,4 @@
 // The messages that a tray keeps itself. The functions stand below, since a clause there may cite definitions that name the type.
-ghost use mathlib.Core.Path.{_≡_};
-ghost use lib.ListN.{length};
 use protocol::Message;
 
 pub mod methods;
@@ -9,5 +7,4 @@ pub mod methods;
 #[derive(Drop)]
 pub struct Table {
     places: [Option<Message>; 8],
-    ghost full: { length places ≡ 8 },
 }

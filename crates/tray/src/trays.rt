@@ -35,7 +35,7 @@ pub impl<C: Carrier> Carrier for Tray<C> as TrayCarrier {
 
     ghost capacity = { λ x. 8 + C·Carrier .capacity (x .below) };
 
-    ghost fits = { λ x. both-fit (x .table) (C·Carrier .waiting (x .below)) (C·Carrier .capacity (x .below)) (C·Carrier .fits (x .below)) };
+    ghost fits = { λ x. both-fit (x .table .places) (C·Carrier .waiting (x .below)) (C·Carrier .capacity (x .below)) (C·Carrier .fits (x .below)) };
 
     fn free(&self) -> u32 {
         self.below.free().saturating_add(self.table.free())

@@ -1,14 +1,15 @@
-use mathlib.Core.Path.{refl, ap, _∙_}
+use mathlib.Core.Path.{_≡_, refl, ap, _∙_}
 use mathlib.Core.Bool.{not}
+use Prim.Native.Nat.{ℕ}
 use native.Mathlib.Omega.{arith}
-use lib.ListN.{length, getD}
-use Rattle.tray.specs.Tables.{kept}
-use Rattle.tray.proofs.Kept.{length-more, length-free, length-used, kept-all}
+use lib.ListN.{length, take, getD}
+use Rattle.tray.specs.Tables.{messages}
+use Rattle.tray.proofs.Kept.{length-more, length-free, length-used}
 use Rattle.tray.proofs.tables.Table.free.Needs as need
 use Rattle.tray.proofs.tables.Table.free.Needs.{then-is-none, else-is-none}
 
 pub loop-at-holds : need.loop-at-holds
-unfolding kept
+unfolding messages
 loop-at-holds c = refl
 
 pub loop-at-again : need.loop-at-again
@@ -17,7 +18,7 @@ loop-at-again c =
     let at = c .loop-at .at in
     let d = c .index-self-at .result in
     let place = getD (table .places) at d in
-    let more = length-more (table .places) at d (omega (arith, table .full)) in
+    let more = length-more (table .places) at d (omega arith) in
     elim (c .if-is-none .came) [
       | then-is-none w ↦ omega (arith, more, w .free-is, length-free place (c .is-none .ensures ∙ ap not (w .if-is-none .taken)))
       | else-is-none w ↦ omega (arith, more, w .free-is, length-used place (c .is-none .ensures ∙ ap not (w .if-is-none .left)))
@@ -25,6 +26,6 @@ loop-at-again c =
 
 pub returns : need.returns
 returns c =
-    let table = c .args .self .now in
-    let all = ap length (kept-all (table .places) (c .loop-at .at) (omega (arith, table .full))) in
+    let end : c .loop-at .at ≡ 8 = omega arith in
+    let all = ap (λ (n : ℕ). length (messages (take n (c .args .self .now .places)))) end in
     omega (arith, all)

@@ -8,4 +8,4 @@ pub returns : need.returns
 returns g c =
     let tray = c .args .self .now in
     let places = tray .table .places in
-    omega (arith, length-append (kept places) (g .C·Carrier .waiting (tray .below)), kept-le places, tray .table .full, g .C·Carrier .fits (tray .below))
+    omega (arith, length-append (kept places) (g .C·Carrier .waiting (tray .below)), kept-le places, g .C·Carrier .fits (tray .below))

@@ -22,5 +22,5 @@ returns-in-Err g c =
     let below = c .post-in-Err .ensures in
     record {
       kept = ap (λ (n : ℕ). 8 + n) (below .kept);
-      posted = posted-below (kept (table .places)) _ (own .same) _ _ (c .post-in-Err .result) _ _ (omega (arith, own .full, kept-le (table .places), table .full)) (below .posted);
+      posted = posted-below (kept (table .places)) _ (own .same) _ _ (c .post-in-Err .result) _ _ (omega (arith, own .full, kept-le (table .places))) (below .posted);
     }
