@@ -1,6 +1,6 @@
 -- Which message is taken. Assumes nothing.
 use mathlib.Core.Path.{_≡_, refl, sym, ap, subst, _∙_}
-use mathlib.Core.Bool.{Bool, true, false, cond}
+use mathlib.Core.Bool.{true, false}
 use mathlib.Core.List.{List, [], _∷_}
 use mathlib.Core.Logic.{⊎-elim}
 use Prim.Native.Nat.{ℕ, zero, suc, _+_, _-_, _≤_, _<_}
@@ -25,20 +25,20 @@ use Rattle.carriers.specs.Order.{place, found, answerAt, leftAt}
 use Rattle.carriers.proofs.Places.{removed-past}
 
 module _ (process : ℕ) (m : Message) (ms : List Message) where
-  pub place-here : addressed process m ≡ true → place process 0 (m ∷ ms) ≡ 0
+  place-here : addressed process m ≡ true → place process 0 (m ∷ ms) ≡ 0
   unfolding place
   place-here h = cond-true (addressed process m) 0 _ h
 
-  pub place-skip : (k : ℕ) → addressed process m ≡ true → place process (suc k) (m ∷ ms) ≡ suc (place process k ms)
+  place-skip : (k : ℕ) → addressed process m ≡ true → place process (suc k) (m ∷ ms) ≡ suc (place process k ms)
   unfolding place
   place-skip k h = ap (λ (j : ℕ). suc (place process j ms)) (cond-true (addressed process m) k (suc k) h)
 
-  pub place-pass : (k : ℕ) → addressed process m ≡ false → place process k (m ∷ ms) ≡ suc (place process k ms)
+  place-pass : (k : ℕ) → addressed process m ≡ false → place process k (m ∷ ms) ≡ suc (place process k ms)
   unfolding place
   place-pass zero h = cond-false (addressed process m) 0 _ h
   place-pass (suc k) h = ap (λ (j : ℕ). suc (place process j ms)) (cond-false (addressed process m) k (suc k) h)
 
-pub place-none : (process k : ℕ) → place process k [] ≡ 0
+place-none : (process k : ℕ) → place process k [] ≡ 0
 unfolding place
 place-none process k = refl
 

@@ -2,7 +2,7 @@
 pub mod baskets;
 pub mod piles;
 pub mod queues;
-pub mod rows;
+mod rows;
 
 pub use baskets::Basket;
 pub use piles::Pile;

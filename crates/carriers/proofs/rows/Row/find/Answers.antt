@@ -1,11 +1,9 @@
-use mathlib.Core.Path.{_≡_, sym, ap, _∙_}
-use mathlib.Core.Bool.{true, false}
+use mathlib.Core.Path.{sym, ap, _∙_}
 use Prim.Native.Nat.{ℕ, _+_, _-_}
 use native.Mathlib.Omega.{arith}
-use lib.ListN.{drop, getD}
+use lib.ListN.{drop}
 use Rattle.std.proofs.shelf.Tests.{eq-eqb, ne-eqb}
 use Rattle.protocol.specs.declared.messages.Message.{Message}
-use Rattle.carrier.specs.Waiting.{addressed}
 use Rattle.carriers.specs.Order.{listed, place}
 use Rattle.carriers.proofs.Order.{drop-here, drop-skip, drop-pass, drop-none}
 use Rattle.carriers.proofs.Places.{getD-live}
