@@ -1,0 +1,3 @@
+// Tests of the carriers through their trait.
+#[cfg(test)]
+mod tests;

@@ -1,0 +1,5 @@
+// A layer over any carrier, which keeps some messages itself.
+mod tables;
+pub mod trays;
+
+pub use trays::Tray;
