@@ -2,7 +2,6 @@
 pub mod baskets;
 pub mod piles;
 pub mod queues;
-mod rows;
 
 pub use baskets::Basket;
 pub use piles::Pile;

@@ -3,8 +3,8 @@ use Prim.Native.Nat.{ℕ, _%_}
 use native.Mathlib.Nat.{mod-lt}
 use native.Mathlib.Omega.{arith}
 use Rattle.carrier.specs.Waiting.{waitingFor}
-use Rattle.carriers.specs.Order.{listed, picked, answerAt, leftAt}
-use Rattle.carriers.proofs.Order.{none-answer, none-left, lawful}
+use Rattle.row.specs.Order.{listed, picked, answerAt, leftAt}
+use Rattle.row.proofs.Order.{none-answer, none-left, lawful}
 use Rattle.carriers.proofs.baskets.BasketCarrier.take.Needs as need
 
 pub returns-then-waiting-eq0 : need.returns-then-waiting-eq0

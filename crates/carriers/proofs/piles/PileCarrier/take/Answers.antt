@@ -1,8 +1,8 @@
 use mathlib.Core.Path.{_≡_, ap, _∙_}
 use Prim.Native.Nat.{ℕ}
 use native.Mathlib.Omega.{arith}
-use Rattle.carriers.specs.Order.{listed, newest, answerAt, leftAt}
-use Rattle.carriers.proofs.Order.{lawful}
+use Rattle.row.specs.Order.{listed, newest, answerAt, leftAt}
+use Rattle.row.proofs.Order.{lawful}
 use Rattle.carriers.proofs.piles.PileCarrier.take.Needs as need
 
 pub returns : need.returns

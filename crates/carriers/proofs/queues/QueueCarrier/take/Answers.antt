@@ -1,5 +1,5 @@
-use Rattle.carriers.specs.Order.{listed}
-use Rattle.carriers.proofs.Order.{lawful}
+use Rattle.row.specs.Order.{listed}
+use Rattle.row.proofs.Order.{lawful}
 use Rattle.carriers.proofs.queues.QueueCarrier.take.Needs as need
 
 pub returns : need.returns

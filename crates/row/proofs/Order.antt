@@ -21,8 +21,8 @@ use Rattle.protocol.specs.Bags.{Same}
 use Rattle.protocol.proofs.Bags.{count-none, count-cons}
 use Rattle.carrier.specs.Waiting.{addressed, waitingFor, Taken}
 use Rattle.carrier.proofs.Counts.{counted}
-use Rattle.carriers.specs.Order.{place, found, answerAt, leftAt}
-use Rattle.carriers.proofs.Places.{removed-past}
+use Rattle.row.specs.Order.{place, found, answerAt, leftAt}
+use Rattle.row.proofs.Places.{removed-past}
 
 module _ (process : ℕ) (m : Message) (ms : List Message) where
   place-here : addressed process m ≡ true → place process 0 (m ∷ ms) ≡ 0

@@ -15,7 +15,7 @@ use Rattle.protocol.specs.declared.messages.Message.{Message}
 use Rattle.protocol.specs.declared.refusals.Refusal.{Refusal}
 use Rattle.protocol.specs.declared.refusals.Refusal.the-variants.{NothingWaiting}
 use Rattle.carrier.specs.Waiting.{addressed, waitingFor}
-use Rattle.carriers.specs.declared.rows.Row.{Row}
+use Rattle.row.specs.declared.rows.Row.{Row}
 
 -- what waits, in order of posting
 abbrev pub listed : Row → List Message

@@ -4,9 +4,9 @@ use native.Mathlib.Omega.{arith}
 use lib.ListN.{take}
 use Rattle.std.specs.declared.option.Option.the-variants.{Some}
 use Rattle.std.proofs.shelf.Maps.{nth-past, nth-getD}
-use Rattle.carriers.specs.Order.{listed}
-use Rattle.carriers.proofs.Places.{getD-live, removed-past, closing-start, closing-more, closing-end}
-use Rattle.carriers.proofs.rows.Row.remove.Needs as need
+use Rattle.row.specs.Order.{listed}
+use Rattle.row.proofs.Places.{getD-live, removed-past, closing-start, closing-more, closing-end}
+use Rattle.row.proofs.rows.Row.remove.Needs as need
 
 pub returns-then-at-live : need.returns-then-at-live
 returns-then-at-live c =

@@ -7,8 +7,8 @@ use Rattle.std.proofs.shelf.Ways.{tells}
 use Rattle.protocol.proofs.Bags.{count-none}
 use Rattle.carrier.specs.Waiting.{addressed, waitingFor}
 use Rattle.carrier.proofs.Counts.{count-le-length}
-use Rattle.carriers.proofs.Places.{take-live, count-more}
-use Rattle.carriers.proofs.rows.Row.count_for.Needs as need
+use Rattle.row.proofs.Places.{take-live, count-more}
+use Rattle.row.proofs.rows.Row.count_for.Needs as need
 
 pub loop-at-holds : need.loop-at-holds
 loop-at-holds c = sym (count-none (addressed (c .args .process)))

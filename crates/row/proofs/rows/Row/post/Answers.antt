@@ -4,9 +4,9 @@ use native.Mathlib.Omega.{arith}
 use Rattle.std.proofs.shelf.Lists.{length-set}
 use Rattle.protocol.specs.Bags.{count}
 use Rattle.protocol.proofs.Bags.{same-swap}
-use Rattle.carriers.specs.Order.{listed}
-use Rattle.carriers.proofs.Places.{push-live}
-use Rattle.carriers.proofs.rows.Row.post.Needs as need
+use Rattle.row.specs.Order.{listed}
+use Rattle.row.proofs.Places.{push-live}
+use Rattle.row.proofs.rows.Row.post.Needs as need
 
 pub returns : need.returns
 returns c =

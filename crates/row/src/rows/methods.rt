@@ -6,7 +6,7 @@ ghost use lib.ListN.{length};
 ghost use Rattle.std.specs.shelf.Lists.{removed};
 ghost use Rattle.std.specs.shelf.Maps.{nth};
 ghost use Rattle.carrier.specs.Waiting.{capped, waitingFor, Posted};
-ghost use Rattle.carriers.specs.Order.{listed, room, place, answerAt, leftAt, pushed};
+ghost use Rattle.row.specs.Order.{listed, room, place, answerAt, leftAt, pushed};
 use crate::rows::Row;
 use protocol::Message;
 use protocol::Refusal;

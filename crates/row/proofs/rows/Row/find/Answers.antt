@@ -4,11 +4,11 @@ use native.Mathlib.Omega.{arith}
 use lib.ListN.{drop}
 use Rattle.std.proofs.shelf.Tests.{eq-eqb, ne-eqb}
 use Rattle.protocol.specs.declared.messages.Message.{Message}
-use Rattle.carriers.specs.Order.{listed, place}
-use Rattle.carriers.proofs.Order.{drop-here, drop-skip, drop-pass, drop-none}
-use Rattle.carriers.proofs.Places.{getD-live}
-use Rattle.carriers.proofs.rows.Row.find.Needs as need
-use Rattle.carriers.proofs.rows.Row.find.Needs.{then-addressee-process·else-before-eq0, else-addressee-process}
+use Rattle.row.specs.Order.{listed, place}
+use Rattle.row.proofs.Order.{drop-here, drop-skip, drop-pass, drop-none}
+use Rattle.row.proofs.Places.{getD-live}
+use Rattle.row.proofs.rows.Row.find.Needs as need
+use Rattle.row.proofs.rows.Row.find.Needs.{then-addressee-process·else-before-eq0, else-addressee-process}
 
 pub returns-then-before-eq0 : need.returns-then-before-eq0
 returns-then-before-eq0 c =
