@@ -1,12 +1,13 @@
 -- What holds of broadcasts in every state of a run.
 use mathlib.Core.Path.{_≡_}
-use mathlib.Core.Bool.{Bool, true}
+use mathlib.Core.Bool.{Bool, true, false}
 use Prim.Native.Nat.{ℕ, _≤_}
 use lib.Dec.{eqb, leb}
 use Rattle.std.specs.Options.{isSome}
 use Rattle.std.specs.declared.option.Option.{Option}
 use Rattle.std.specs.declared.option.Option.the-variants.{Some}
 use Rattle.protocol.specs.declared.messages.Subject.{Subject}
+use Rattle.protocol.specs.declared.messages.Subject.the-variants.{Item}
 use Rattle.protocol.specs.Bags.{count}
 use Rattle.protocol.specs.Counting.{below}
 use Rattle.protocol.specs.Messages.{originatorOf}
@@ -49,3 +50,14 @@ pub record Lasts (st next : State) : Type 0 where
 
 abbrev pub Lasting : Type 0
 Lasting = (w : World) (st next : State) → Turn w st next → Lasts st next
+
+-- a world of one process, and what may happen in it: process 0 told body 5 under serial 0, accepted it and is at rest
+abbrev pub alone : World
+alone = counted 1 0 1 1 1 (λ _. false)
+
+pub record Happens (st : State) : Type 0 where
+  pub lawful : Lawful alone
+  pub run : Run alone st
+  pub rest : AtRest alone st
+  pub told : st .said (Item 0 0) ≡ Some 5
+  pub accepted : accepted-at st 0 (Item 0 0) ≡ Some 5
