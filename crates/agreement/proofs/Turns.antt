@@ -21,11 +21,11 @@ use Rattle.agreement.specs.Records.{Rec, when, handle}
 use Rattle.agreement.specs.Runs.{State, Turn, tell, forge, drop, deliver, same-subject, to-all, spread, delivered, answers, told, leaving, received}
 use Rattle.agreement.proofs.Bodies.{when-stays, when-set, when-from}
 use Rattle.agreement.proofs.Handler.{Moves, stands, handle-moves, handle-settles, due, settled}
-use Rattle.agreement.proofs.Waiting.{waits, waits-same, waits-here, waits-there, waits-cons, waits-left, waits-right, waits-append, to-all-waits, to-all-told, told-gives, Is, spread-told, spread-waits, same-subject-true, subject-same}
+use Rattle.agreement.proofs.Waiting.{waits, waits-same, waits-here, waits-there, waits-cons, waits-left, waits-right, waits-append, to-all-waits, to-all-told, Told, told-gives, Is, spread-told, spread-waits, same-subject-true, subject-same}
 use Rattle.agreement.proofs.Invariant.{Seen, says, tells}
 
 module _ (w : World) (law : Lawful w) (st : State) where
-  -- a turn that changes only what waits
+  -- a turn that changes only what waits: nothing new of correct processes, and all that waits for them stays
   plain : (u : Subject) (left : List Message) → ((k i : ℕ) (step : Step) (b : ℕ) → Correct w k → waits left k i step u b → waits (st .waiting) k i step u b) → ((k i : ℕ) (step : Step) (b : ℕ) → Correct w i → waits (st .waiting) k i step u b → waits left k i step u b) → Seen w u st (leaving left st)
   plain u left old kept = record {
     said-stays = λ b e. e;
@@ -41,12 +41,26 @@ module _ (w : World) (law : Lawful w) (st : State) where
       sent-before k i Ready b ck ci e = inl e
 
   by-forge : (u : Subject) (m : Message) (left : List Message) → w .faulty (m .sender) ≡ true → Same left (m ∷ st .waiting) → Seen w u st (leaving left st)
-  by-forge u m left bad same =
-      plain u left (λ k i step b ck h. ⊎-elim (λ x. absurd (both-ways _ (ck .1) (ap (w .faulty) (sym (x .from)) ∙ bad))) (λ x. x) (waits-cons k i step u b m (st .waiting) (waits-same k i step u b left _ same h))) (λ k i step b ci h. waits-same k i step u b _ left (same-sym left _ same) (waits-there k i step u b m (st .waiting) h))
+  by-forge u m left bad same = plain u left old kept
+    where
+      old : (k i : ℕ) (step : Step) (b : ℕ) → Correct w k → waits left k i step u b → waits (st .waiting) k i step u b
+      old k i step b ck h =
+          ⊎-elim (λ x. absurd (both-ways _ (ck .1) (ap (w .faulty) (sym (x .from)) ∙ bad))) (λ x. x)
+          (waits-cons k i step u b m (st .waiting) (waits-same k i step u b left _ same h))
+
+      kept : (k i : ℕ) (step : Step) (b : ℕ) → Correct w i → waits (st .waiting) k i step u b → waits left k i step u b
+      kept k i step b ci h = waits-same k i step u b _ left (same-sym left _ same) (waits-there k i step u b m (st .waiting) h)
 
   by-drop : (u : Subject) (m : Message) (left : List Message) → w .faulty (m .addressee) ≡ true → Same (st .waiting) (m ∷ left) → Seen w u st (leaving left st)
-  by-drop u m left bad same =
-      plain u left (λ k i step b ck h. waits-same k i step u b _ (st .waiting) (same-sym (st .waiting) _ same) (waits-there k i step u b m left h)) (λ k i step b ci h. ⊎-elim (λ x. absurd (both-ways _ (ci .1) (ap (w .faulty) (sym (x .to)) ∙ bad))) (λ x. x) (waits-cons k i step u b m left (waits-same k i step u b (st .waiting) _ same h)))
+  by-drop u m left bad same = plain u left old kept
+    where
+      old : (k i : ℕ) (step : Step) (b : ℕ) → Correct w k → waits left k i step u b → waits (st .waiting) k i step u b
+      old k i step b ck h = waits-same k i step u b _ (st .waiting) (same-sym (st .waiting) _ same) (waits-there k i step u b m left h)
+
+      kept : (k i : ℕ) (step : Step) (b : ℕ) → Correct w i → waits (st .waiting) k i step u b → waits left k i step u b
+      kept k i step b ci h =
+          ⊎-elim (λ x. absurd (both-ways _ (ci .1) (ap (w .faulty) (sym (x .to)) ∙ bad))) (λ x. x)
+          (waits-cons k i step u b m left (waits-same k i step u b (st .waiting) _ same h))
 
   module _ (s : Subject) (b : ℕ) (left : List Message) (co : Correct w (originatorOf s)) (fresh : st .said s ≡ None) (same : Same left (to-all (w .n) (originatorOf s) Initial s b ++ st .waiting)) where
     abbrev next : State
@@ -57,6 +71,12 @@ module _ (w : World) (law : Lawful w) (st : State) where
 
     says-now : says next s (originatorOf s) Initial ≡ Some b
     says-now = cond-true _ _ None (eq-eqb (originatorOf s) (originatorOf s) refl) ∙ when-set (same-subject s s) (st .said s) b (subject-same s) fresh
+
+    -- it waits for every process
+    waits-now : (i : ℕ) → Correct w i → waits left (originatorOf s) i Initial s b
+    waits-now i ci =
+        waits-same (originatorOf s) i Initial s b _ left (same-sym left _ same)
+        (waits-left (originatorOf s) i Initial s b _ _ (to-all-waits (w .n) (originatorOf s) i Initial s b (law .named) named (ci .0)))
 
     by-tell : (u : Subject) → Seen w u st next
     by-tell u = record {
@@ -74,12 +94,13 @@ module _ (w : World) (law : Lawful w) (st : State) where
             let t = tells (eqb k (originatorOf u)) (when (same-subject u s) (st .said u) b) c e in
             ⊎-elim (λ x. inl (cond-true _ _ None (t .0) ∙ x)) (λ x.
             let is = same-subject-true u s (x .0) in
-            inr (told-gives (originatorOf s) k Initial Initial s u b c (λ j p v d. waits left j i p v d) (record { from = ap originatorOf (sym is) ∙ sym (eqb-true _ _ (t .0)); at = refl; of = sym is; holds = x .1 }) (waits-same (originatorOf s) i Initial s b _ left (same-sym left _ same) (waits-left (originatorOf s) i Initial s b _ _ (to-all-waits (w .n) (originatorOf s) i Initial s b (law .named) named (ci .0))))))
+            let as-told : Told (originatorOf s) Initial s b k Initial u c = record { from = ap originatorOf (sym is) ∙ sym (eqb-true _ _ (t .0)); at = refl; of = sym is; holds = x .1 } in
+            inr (told-gives _ k Initial Initial s u b c (λ j p v d. waits left j i p v d) as-told (waits-now i ci)))
             (when-from (same-subject u s) (st .said u) b c (t .1))
         sent-now k i Echo c ck ci e = inl e
         sent-now k i Ready c ck ci e = inl e
 
-  module _ (m : Message) (rest left : List Message) (ci : Correct w (m .addressee)) (taken : Same (st .waiting) (m ∷ rest)) where
+  module _ (m : Message) (rest left : List Message) (taken : Same (st .waiting) (m ∷ rest)) where
     abbrev here : ℕ → Subject → Bool
     here j u = eqb j (m .addressee) && same-subject u (m .subject)
 
@@ -162,4 +183,4 @@ pub seen : (w : World) (law : Lawful w) (st next : State) → Turn w st next →
 seen w law st next (tell s b left co fresh same) u = by-tell w law st s b left co fresh same u
 seen w law st next (forge m left lt bad same) u = by-forge w law st u m left bad same
 seen w law st next (drop m left lt bad same) u = by-drop w law st u m left bad same
-seen w law st next (deliver m rest left ci taken same) u = by-deliver w law st m rest left ci taken same u
+seen w law st next (deliver m rest left ci taken same) u = by-deliver w law st m rest left taken same u
