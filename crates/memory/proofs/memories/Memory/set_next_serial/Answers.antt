@@ -1,0 +1,6 @@
+use borrow.Author.Needs.{needs}
+use Rattle.std.proofs.shelf.Lists.{set-past}
+use Rattle.memory.proofs.memories.Memory.set_next_serial.Needs as need
+
+pub returns-else-process-self : need.returns-else-process-self
+returns-else-process-self c = search (needs, set-past)
