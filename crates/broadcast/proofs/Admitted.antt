@@ -6,7 +6,6 @@ use native.Mathlib.Omega.{arith}
 use lib.Dec.{leb, ltb}
 use lib.ListN.{length}
 use Rattle.std.proofs.shelf.Tests.{and-parts, and-from, cond-true, leb-true, ltb-true, lt-ltb}
-use Rattle.std.specs.declared.option.Option.{Option}
 use Rattle.std.specs.declared.option.Option.the-variants.{Some, None}
 use Rattle.protocol.specs.declared.messages.Message.{Message}
 use Rattle.protocol.specs.declared.messages.Subject.{Subject}
@@ -46,9 +45,9 @@ pub admitted :
     → Some p ≡ placeOf plan process s
     → Laid plan
     → Admitted plan process m h p
-admitted plan process m h p s all from is-enough yes-enough subject-is e laid =
+admitted plan process m h p s all from is-enough enough-so subject-is e laid =
     let f = found plan process (m .subject) p (e ∙ ap (λ (z : Subject). placeOf plan process z) subject-is) in
-    let fits = sym is-enough ∙ yes-enough in
+    let fits = sym is-enough ∙ enough-so in
     let needs = needsOf plan in
     let k = place plan process (m .subject) in
     let rest = leb (needs .«case_records») (length (h .cases)) && leb (needs .«next_serials») (length (h .serials)) in

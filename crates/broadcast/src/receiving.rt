@@ -1,7 +1,7 @@
 // Hearing a message, and going on by what was heard.
 ghost use mathlib.Core.Path.{_≡_};
 ghost use Prim.Native.Nat.{_+_, _≤_, _<_};
-ghost use lib.ListN.{length, getD, set};
+ghost use lib.ListN.{length, getD};
 ghost use Rattle.memory.specs.Contents.{held, silent};
 ghost use Rattle.broadcast.specs.Hearing.{hear, saying, listened, agreeing, withBodies};
 ghost use Rattle.broadcast.specs.Stages.{sends, turn, put};

@@ -1,5 +1,5 @@
 -- All places are among those that the plan needs, and no two things share one. Assumes nothing.
-use mathlib.Core.Path.{_≡_, refl, sym, ap, _∙_}
+use mathlib.Core.Path.{_≡_, sym, ap, _∙_}
 use mathlib.Core.Bool.{true, _&&_}
 use Prim.Native.Nat.{ℕ, _+_, _-_, _*_, _/_, _%_, _≤_, _<_}
 use native.Mathlib.Nat.{mul-comm, mul-assoc, mul-add, add-mul}
@@ -11,8 +11,7 @@ use Rattle.protocol.specs.Messages.{originatorOf}
 use Rattle.protocol.specs.declared.messages.Subject.{Subject}
 use Rattle.protocol.specs.declared.messages.Subject.the-variants.{Item, Ballot}
 use Rattle.plan.specs.declared.plans.Plan.{Plan}
-use Rattle.plan.specs.Plans.{needsOf}
-use Rattle.memory.specs.Places.{within, subjects, number, place, echoes, readies, casePlace, Laid}
+use Rattle.memory.specs.Places.{within, subjects, number, place, echoes, readies, Laid}
 
 -- row and column are found again from a place
 grid-apart : (w a b c d : ℕ) → b < w → d < w → a * w + b ≡ c * w + d → (a ≡ c) × (b ≡ d)
@@ -34,11 +33,11 @@ module _ (plan : Plan) where
       let d = and-parts (leb 1 r) (leb r (3 * plan .phases)) (b .1) in
       (ltb-true i (plan .n) (a .0), ltb-true c (plan .cases) (b .0), leb-true 1 r (d .0), leb-true r (3 * plan .phases) (d .1))
 
-  pub originator-below : (s : Subject) → within plan s ≡ true → originatorOf s < plan .n
+  originator-below : (s : Subject) → within plan s ≡ true → originatorOf s < plan .n
   originator-below (Item i k) h = item-within i k h .0
   originator-below (Ballot i c r) h = ballot-within i c r h .0
 
-  pub number-below : (s : Subject) → within plan s ≡ true → number plan s < subjects plan
+  number-below : (s : Subject) → within plan s ≡ true → number plan s < subjects plan
   number-below (Item i k) h = omega (arith, item-within i k h .1)
   number-below (Ballot i c r) h =
       let w = ballot-within i c r h in
@@ -79,7 +78,7 @@ module _ (plan : Plan) where
   ready-row : (k j : ℕ) → readies plan k + j ≡ (2 * k + 1) * plan .n + j
   ready-row k j = omega (arith, echo-row k j, add-mul (2 * k) 1 (plan .n))
 
-  pub body-inside : (k : ℕ) → k < plan .n * plan .n * subjects plan → readies plan k + plan .n ≤ 2 * plan .n * (plan .n * plan .n * subjects plan)
+  body-inside : (k : ℕ) → k < plan .n * plan .n * subjects plan → readies plan k + plan .n ≤ 2 * plan .n * (plan .n * plan .n * subjects plan)
   body-inside k lt =
       let m = plan .n * plan .n * subjects plan in
       omega (arith, mul-add (2 * plan .n) k 1, mul-le (2 * plan .n) (k + 1) (2 * plan .n) m (omega arith) (omega arith))

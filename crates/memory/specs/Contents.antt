@@ -4,7 +4,7 @@ use Prim.Native.Nat.{ℕ, zero, suc}
 use denote.Ref.{now}
 use lib.ListN.{getD, set}
 use Rattle.std.specs.declared.option.Option.{Option}
-use Rattle.std.specs.declared.option.Option.the-variants.{Some, None}
+use Rattle.std.specs.declared.option.Option.the-variants.{None}
 use Rattle.plan.specs.declared.plans.Plan.{Plan}
 use Rattle.plan.specs.Plans.{needsOf}
 use Rattle.memory.specs.declared.memories.Memory.{Memory}

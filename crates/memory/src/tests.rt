@@ -108,7 +108,9 @@ fn clearing_ends_where_the_need_ends() -> Result<(), Fail> {
     };
     clear(&plan, &mut memory);
     check(!is_readied(memory.stage(3)) && is_readied(memory.stage(4)))?;
-    check_eq(memory.bodies.len(), 9)?;
+    check(memory.bodies.len() == 9)?;
+    check_eq(memory.bodies[7], None)?;
+    check_eq(memory.bodies[8], Some(7))?;
     check_eq(memory.case_record(0).round, 0)?;
     check_eq(memory.case_record(1).round, 9)?;
     check_eq(memory.next_serial(0), 0)?;

@@ -67,7 +67,8 @@ fn number_of(plan: &Plan, subject: Subject) -> u64
 
 // The place of a process's record of a case, if the plan has both.
 pub fn case_place(plan: &Plan, process: u64, case: u64) -> Option<usize>
-    ensures { λ r. ⌜ r ≡ casePlaceOf (now (plan .entry)) process case ⌝ }
+    ensures value { λ r. ⌜ r ≡ casePlaceOf (now (plan .entry)) process case ⌝ }
+    ensures laid { λ r. ⌜ Laid (now (plan .entry)) ⌝ }
 {
     if process < plan.n() && case < plan.cases() {
         Some((process * plan.cases() + case) as usize)

@@ -1,10 +1,10 @@
-use mathlib.Core.Path.{_≡_, sym, ap}
+use mathlib.Core.Path.{sym}
 use Prim.Native.Nat.{ℕ, _+_}
 use native.Mathlib.Omega.{arith}
 use lib.ListN.{getD}
 use Rattle.std.specs.declared.option.Option.the-variants.{None}
 use Rattle.std.proofs.shelf.Ways.{tells}
-use Rattle.protocol.proofs.Counting.{below-none, below-more, below-le}
+use Rattle.protocol.proofs.Counting.{below-none, below-le}
 use Rattle.broadcast.specs.Hearing.{says}
 use Rattle.broadcast.proofs.Counted.{saying-more}
 use Rattle.broadcast.proofs.receiving.count_saying.Needs as need
