@@ -1,0 +1,4 @@
+pub mod Sides
+pub mod Tallies
+pub mod Steps
+pub mod Theorem
