@@ -1,10 +1,8 @@
 -- Ballots of different sides differ, and the kinds of rounds follow one another.
-use mathlib.Core.Path.{_≡_, refl, sym, ap, _∙_}
-use mathlib.Core.Bool.{Bool, true, false, cond}
-use mathlib.Core.Logic.{_⊎_, inl, inr}
+use mathlib.Core.Path.{_≡_, refl, ap}
+use mathlib.Core.Bool.{Bool, cond}
 use Prim.Native.Nat.{ℕ, zero, suc, _<_}
 use native.Mathlib.Omega.{arith}
-use lib.Dec.{ltb}
 use Rattle.std.proofs.shelf.Tests.{lt-ltb, le-ltb}
 use Rattle.protocol.specs.declared.votes.Side.{Side}
 use Rattle.protocol.specs.declared.votes.Side.the-variants.{Keep, Release}
@@ -16,12 +14,6 @@ use Rattle.consensus.specs.Rounds.{Kind, First, Second, Third, kind, ahead, ba
 abbrev pub other : Side → Side
 other Keep = Release
 other Release = Keep
-
-pub this-or-other : (u v : Side) → (u ≡ v) ⊎ (u ≡ other v)
-this-or-other Keep Keep = inl refl
-this-or-other Keep Release = inr refl
-this-or-other Release Keep = inr refl
-this-or-other Release Release = inl refl
 
 pub vote-side : (u v : Side) → ballotNumber (vote u) ≡ ballotNumber (vote v) → u ≡ v
 vote-side Keep Keep e = refl

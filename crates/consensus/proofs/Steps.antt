@@ -1,10 +1,10 @@
 -- From one round to the next.
 use mathlib.Core.Path.{_≡_, refl, sym, ap, subst, _∙_}
-use mathlib.Core.Bool.{Bool, true, false, cond, _&&_}
-use mathlib.Core.Logic.{_⊎_, inl, inr, ⊎-elim}
-use Prim.Native.Nat.{ℕ, zero, suc, _+_, _-_, _*_, _≤_, _<_}
+use mathlib.Core.Bool.{Bool, true, false, _&&_}
+use mathlib.Core.Logic.{inl, inr, ⊎-elim}
+use Prim.Native.Nat.{ℕ, zero, suc, _-_, _*_, _≤_, _<_}
 use native.Mathlib.Omega.{arith}
-use Rattle.std.proofs.shelf.Tests.{cases-bool, cases-lt}
+use Rattle.std.proofs.shelf.Tests.{cases-lt}
 use Rattle.std.specs.declared.option.Option.the-variants.{Some}
 use Rattle.protocol.specs.declared.votes.Side.{Side}
 use Rattle.protocol.specs.declared.votes.Ballot.{Ballot}
@@ -12,9 +12,9 @@ use Rattle.protocol.specs.Numbers.{ballotNumber, vote, proposal}
 use Rattle.protocol.proofs.Counting.{below-alike}
 use Rattle.agreement.specs.Records.{has}
 use Rattle.consensus.specs.Rounds.{Accepted, Kind, First, Second, Third, kind, tally, Forces, Most, ahead, Allows, ballotFor}
-use Rattle.consensus.specs.Validity.{Full, Valid, Quorum, Part}
+use Rattle.consensus.specs.Validity.{Valid, Quorum, Part}
 use Rattle.consensus.specs.Decisions.{Kept, OneSide}
-use Rattle.consensus.proofs.Sides.{other, this-or-other, vote-side, proposal-side, side-of, not-vote, not-open, not-other, ahead-is, after, kind-after}
+use Rattle.consensus.proofs.Sides.{other, vote-side, proposal-side, side-of, not-vote, not-open, not-other, ahead-is, after, kind-after}
 use Rattle.consensus.proofs.Tallies.{held, most-meet, valid-sayer, tally-all}
 
 module _ (n t : ℕ) (A G : Accepted) (part : Part A G) where
@@ -33,17 +33,24 @@ module _ (n t : ℕ) (A G : Accepted) (part : Part A G) where
             let a = held n t A r k (m .0) (m .1) in
             ap (λ o. has o (ballotNumber b)) (a ∙ sym (part k r (m .0) a))
 
-  pub valid-kept : (r o b : ℕ) → Valid n t A r o b → Valid n t G r o b
+    allows-kept : (S : ℕ → Bool) → Quorum n t A r S → (b : ℕ) → Allows n t (kind r) (tally n A r S) b → Allows n t (kind r) (tally n G r S) b
+    allows-kept S full b a = subst (λ (count : Ballot → ℕ). Allows n t (kind r) count b) (λ i c. tally-kept S full c i) a
+
+  valid-kept : (r o b : ℕ) → Valid n t A r o b → Valid n t G r o b
   unfolding Valid
   valid-kept zero o b v = (part o zero b (v .0), v .1)
   valid-kept (suc r) o b v =
       let S = v .1 .0 in
       let full : Quorum n t A r S = v .1 .1 in
-      let same : tally n A r S ≡ tally n G r S = λ i c. tally-kept r (valid-kept r) S full c i in
-      (part o (suc r) b (v .0), (S, quorum-kept r (valid-kept r) S full, subst (λ (count : Ballot → ℕ). Allows n t (kind r) count b) same (v .1 .2)))
+      (part o (suc r) b (v .0), (S, quorum-kept r (valid-kept r) S full, allows-kept r (valid-kept r) S full b (v .1 .2)))
+
+  next-kept : (r : ℕ) (S : ℕ → Bool) → Quorum n t A r S → (o b : ℕ) → Allows n t (kind r) (tally n A r S) b → G o (suc r) ≡ Some b → Valid n t G (suc r) o b
+  unfolding Valid
+  next-kept r S full o b a e = (e, (S, quorum-kept r (valid-kept r) S full, allows-kept r (valid-kept r) S full b a))
 
   pub all-kept : (r : ℕ) → Kept n t A G r
-  all-kept r = record { ballots = valid-kept r; quorums = quorum-kept r (valid-kept r); tallies = tally-kept r (valid-kept r) }
+  all-kept r =
+      record { ballots = valid-kept r; quorums = quorum-kept r (valid-kept r); tallies = tally-kept r (valid-kept r); next = next-kept r }
 
 -- the counts of a set of a round of kind q, if it allows no side but v
 abbrev pub Carries : ℕ → ℕ → Kind → (Ballot → ℕ) → Side → Type 0

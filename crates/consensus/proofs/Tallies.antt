@@ -1,23 +1,21 @@
 -- What the counts of a set tell of its members.
-use mathlib.Core.Path.{_≡_, refl, sym, ap, subst, _∙_}
-use mathlib.Core.Bool.{Bool, true, false, cond, _&&_, _||_}
-use mathlib.Core.Logic.{_⊎_, inl, inr, ⊎-elim}
-use Prim.Native.Nat.{ℕ, zero, suc, _+_, _-_, _*_, _≤_, _<_}
+use mathlib.Core.Path.{_≡_, ap, subst, _∙_}
+use mathlib.Core.Bool.{Bool, true, false, _&&_, _||_}
+use mathlib.Core.Logic.{⊎-elim}
+use Prim.Native.Nat.{ℕ, zero, suc, _+_, _-_, _≤_, _<_}
 use native.Mathlib.Omega.{arith}
 use Rattle.std.proofs.shelf.Tests.{both-ways, and-parts, and-from, or-left, or-right, cases-bool}
-use Rattle.std.specs.declared.option.Option.{Option}
 use Rattle.std.specs.declared.option.Option.the-variants.{Some}
-use Rattle.protocol.specs.declared.votes.Side.{Side}
 use Rattle.protocol.specs.declared.votes.Ballot.{Ballot}
 use Rattle.protocol.specs.Counting.{below}
-use Rattle.protocol.specs.Numbers.{ballotNumber, vote, proposal}
-use Rattle.protocol.proofs.Counting.{below-le, below-alike}
+use Rattle.protocol.specs.Numbers.{ballotNumber}
+use Rattle.protocol.proofs.Counting.{below-le}
 use Rattle.agreement.specs.Records.{has}
 use Rattle.agreement.proofs.Bodies.{has-some, some-has, some-once}
 use Rattle.agreement.proofs.Counts.{below-measure}
 use Rattle.agreement.proofs.Weights.{find}
-use Rattle.consensus.specs.Rounds.{Accepted, kind, tally, Allows}
-use Rattle.consensus.specs.Validity.{Full, Valid, Quorum, Part, Resilient, Correct}
+use Rattle.consensus.specs.Rounds.{Accepted, tally}
+use Rattle.consensus.specs.Validity.{Valid, Quorum, Correct}
 
 some-below : (n : ℕ) (p : ℕ → Bool) → 0 < below n p → (k : ℕ) × (k < n) × (p k ≡ true)
 some-below n p h = ⊎-elim (λ x. x) (λ none. absurd (omega (arith, below-measure n .empty, below-measure n .monotone p (λ _. false) (λ k l e. absurd (both-ways _ (none k l) e))))) (find n p)
@@ -37,7 +35,7 @@ module _ (n t : ℕ) (G : Accepted) where
 
   module _ (r : ℕ) where
     -- a member of S with ballot b
-    pub sayer : (S : ℕ → Bool) (b : Ballot) → 0 < tally n G r S b → (k : ℕ) × (k < n) × (S k ≡ true) × (G k r ≡ Some (ballotNumber b))
+    sayer : (S : ℕ → Bool) (b : Ballot) → 0 < tally n G r S b → (k : ℕ) × (k < n) × (S k ≡ true) × (G k r ≡ Some (ballotNumber b))
     unfolding tally
     sayer S b h =
         let k = some-below n _ h in

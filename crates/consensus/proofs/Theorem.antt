@@ -1,18 +1,18 @@
 -- Decisions: what binds them, what they bind, and why they agree.
 use mathlib.Core.Path.{_≡_, refl, sym, ap, subst, _∙_}
 use mathlib.Core.Bool.{Bool}
-use mathlib.Core.Logic.{_⊎_, inl, inr, ⊎-elim}
-use Prim.Native.Nat.{ℕ, zero, suc, _+_, _-_, _*_, _≤_, _<_}
+use mathlib.Core.Logic.{⊎-elim}
+use Prim.Native.Nat.{ℕ, zero, suc, _-_, _*_, _≤_, _<_}
 use native.Mathlib.Omega.{arith}
 use Rattle.std.proofs.shelf.Tests.{cases-lt}
 use Rattle.protocol.specs.declared.votes.Side.{Side}
 use Rattle.protocol.specs.declared.votes.Ballot.{Ballot}
 use Rattle.protocol.specs.Numbers.{ballotNumber, vote, proposal}
-use Rattle.consensus.specs.Rounds.{Accepted, Kind, First, Second, Third, kind, tally, Forces, Decides, ballotFor}
+use Rattle.consensus.specs.Rounds.{Accepted, Kind, First, Third, kind, tally, Forces, Decides, ballotFor}
 use Rattle.consensus.specs.Validity.{Valid, Quorum, Part, Resilient, Correct}
-use Rattle.consensus.specs.Decisions.{Kept, OneSide, Locked, Settled, Unanimous, Tossed}
-use Rattle.consensus.proofs.Sides.{other, vote-side, not-other, after, kind-after, not-vote, proposal-side}
-use Rattle.consensus.proofs.Tallies.{valid-sayer, tally-correct, tally-faulty, tally-met}
+use Rattle.consensus.specs.Decisions.{Locked, Settled, Unanimous, Tossed}
+use Rattle.consensus.proofs.Sides.{other, vote-side, not-other, after, kind-after}
+use Rattle.consensus.proofs.Tallies.{tally-correct, tally-faulty, tally-met}
 use Rattle.consensus.proofs.Steps.{all-kept, Carries, one-side, Agreed, carried-on, agreed-count, agreed-only, agreed-on}
 
 third-carries : (n t : ℕ) (q : Kind) (count : Ballot → ℕ) (v : Side) → q ≡ Third → Forces t count v → ((u : Side) → Forces t count u → u ≡ v) → Carries n t q count v
@@ -20,6 +20,10 @@ third-carries n t q count v e f one = subst (λ (k : Kind). Carries n t k count 
 
 first-carries : (n t : ℕ) (q : Kind) (count : Ballot → ℕ) (v : Side) → q ≡ First → count (vote (other v)) < count (vote v) → Carries n t q count v
 first-carries n t q count v e l = subst (λ (k : Kind). Carries n t k count v) (sym e) l
+
+later : (r : ℕ) → kind r ≡ Third → 0 < r
+later zero e = let z : _≡_ {A = ℕ} 0 1 = cc in absurd (omega arith)
+later (suc r) e = omega arith
 
 module _ (n t : ℕ) (G : Accepted) where
   -- every later round than one that has v only
@@ -60,9 +64,17 @@ module _ (n t : ℕ) (G : Accepted) where
         carries S full =
             first-carries n t (kind r) (tally n G r S) v at-first (omega (arith, law .few, law .third, tally-correct n t G r S full faulty (vote v) all, tally-faulty n t G r S full faulty (vote v) all (vote (other v)) (λ e. not-other v (vote-side (other v) v e))))
 
-    pub lucky : (r : ℕ) (c : Side) (used : ℕ → ℕ → Bool) → kind r ≡ Third → ((o b : ℕ) → Correct n faulty o → Valid n t G (suc r) o b → Tossed n t G r (used o) c b) → ((o : ℕ) (v : Side) → Correct n faulty o → Forces t (tally n G r (used o)) v → v ≡ c) → (q : ℕ) → suc r < q → Settled n t G q c
-    lucky r c used at-third tossed same q l =
-        settled (suc r) c (kind-after r ∙ ap after at-third) (λ o b co x. ⊎-elim (λ f. f .2 ∙ ap (λ v. ballotNumber (vote v)) (same o (f .0) co (f .1))) (λ f. f .1) (tossed o b co x .rule)) q l
+    pub valid-decision : (A : Accepted) → Part A G → (v : Side) → Unanimous n t faulty G 0 v → (r : ℕ) → kind r ≡ Third → (S : ℕ → Bool) (u : Side) → Quorum n t A r S → Decides t (tally n A r S) u → u ≡ v
+    valid-decision A part v all r e S u full d =
+        let x = all-kept n t A G part r in
+        settled 0 v refl all r (later r e) .alone e S u (x .quorums S full) (omega (arith, x .tallies S full (proposal u)))
+
+    pub lucky : (r : ℕ) (c : Side) (counts : ℕ → Ballot → ℕ) → kind r ≡ Third → ((o b : ℕ) → Correct n faulty o → Valid n t G (suc r) o b → Tossed t (counts o) c b) → ((o : ℕ) (v : Side) → Correct n faulty o → Forces t (counts o) v → v ≡ c) → (q : ℕ) → suc r < q → Settled n t G q c
+    lucky r c counts e tossed same q l = settled (suc r) c (kind-after r ∙ ap after e) unanimous q l
+      where
+        unanimous : Unanimous n t faulty G (suc r) c
+        unanimous o b co x =
+            ⊎-elim (λ f. f .2 ∙ ap (λ v. ballotNumber (vote v)) (same o (f .0) co (f .1))) (λ f. f .1) (tossed o b co x)
 
 module _ (n t : ℕ) (third : 3 * t < n) (G : Accepted) where
   -- of two decisions the later one follows the earlier

@@ -1,7 +1,8 @@
 -- Which accepted ballots are valid.
 use mathlib.Core.Path.{_≡_}
-use mathlib.Core.Bool.{Bool, true, false}
+use mathlib.Core.Bool.{Bool, true, false, _&&_}
 use Prim.Native.Nat.{ℕ, zero, suc, _-_, _*_, _≤_, _<_}
+use lib.Dec.{ltb}
 use Rattle.std.specs.declared.option.Option.the-variants.{Some}
 use Rattle.protocol.specs.declared.votes.Side.{Side}
 use Rattle.protocol.specs.Counting.{below}
@@ -23,6 +24,10 @@ Valid n t G (suc r) o b =
 -- S is a full set of valid ballots of round r in G
 abbrev pub Quorum : ℕ → ℕ → Accepted → ℕ → (ℕ → Bool) → Type 0
 Quorum n t G r S = Full n t (Valid n t G r) S
+
+-- the m lowest k that pass the test
+unfoldable pub lowest : ℕ → (ℕ → Bool) → ℕ → Bool
+lowest m p k = p k && ltb (below k p) m
 
 -- all that A has, G has
 abbrev pub Part : Accepted → Accepted → Type 0
