@@ -1,0 +1,5 @@
+use Rattle.consensus.proofs.rounds_go_on.Needs as need
+use Rattle.consensus.proofs.Advancing.{advances, enough}
+
+pub returns : need.returns
+returns c = record { lowest = advances; enough = enough }
