@@ -1,6 +1,7 @@
 //! Consensus on one case: which ballots are valid, and what sets of them decide. No code runs here: each function
 //! carries a theorem.
 ghost use Rattle.consensus.specs.Decisions.{Monotone, Proposals, Locking, Settling, Validity, Agreement, Luck, Lowest, Enough, Happens};
+ghost use Rattle.consensus.specs.Maps.{Joining, Deciding};
 ghost use Rattle.consensus.specs.Rounds.{Accepted};
 ghost use Rattle.protocol.specs.declared.votes.Side.{Side};
 ghost use mathlib.Core.Bool.{Bool};
@@ -38,6 +39,14 @@ pub fn unanimity_settles() -> u8
 // No two decisions differ.
 pub fn decisions_agree() -> u8
     ensures { λ _. ⌜ Agreement ⌝ }
+{
+    0
+}
+
+// The maps of correct processes that accept alike are parts of one, and so what they decide by them agrees.
+pub fn maps_join() -> u8
+    ensures joining { λ _. ⌜ Joining ⌝ }
+    ensures deciding { λ _. ⌜ Deciding ⌝ }
 {
     0
 }

@@ -1,0 +1,83 @@
+-- One map of what correct processes accepted, and what they decide by their own.
+use mathlib.Core.Path.{_≡_, refl, ap, subst, _∙_}
+use mathlib.Core.Bool.{Bool, true, false}
+use mathlib.Core.Logic.{_⊎_, inl, inr, ⊎-elim}
+use Prim.Native.Nat.{ℕ, zero, suc, _≤_, _<_}
+use native.Mathlib.Omega.{arith}
+use Rattle.std.proofs.shelf.Tests.{both-ways, cases-lt}
+use Rattle.std.specs.declared.option.Option.{Option}
+use Rattle.std.specs.declared.option.Option.the-variants.{Some, None}
+use Rattle.agreement.proofs.Bodies.{none-some}
+use Rattle.consensus.specs.Rounds.{Accepted}
+use Rattle.consensus.specs.Validity.{Resilient, Correct}
+use Rattle.consensus.specs.Maps.{Alike, Joins, Decisions}
+use Rattle.consensus.proofs.Tallies.{held}
+use Rattle.consensus.proofs.Theorem.{agreement, valid-decision}
+
+-- what a correct process has, or else the rest
+abbrev choose : Bool → Option ℕ → Option ℕ → Option ℕ
+choose true o rest = rest
+choose false None rest = rest
+choose false (Some b) rest = Some b
+
+chosen : (q : Bool) (o rest : Option ℕ) (b : ℕ) → q ≡ false → o ≡ Some b → choose q o rest ≡ Some b
+chosen true o rest b c e = absurd (both-ways true c refl)
+chosen false None rest b c e = absurd (none-some None b refl e)
+chosen false (Some d) rest b c e = e
+
+left-over : (q : Bool) (o rest : Option ℕ) (b : ℕ) → rest ≡ Some b → (c : ℕ) × (choose q o rest ≡ Some c)
+left-over true o rest b e = (b, e)
+left-over false None rest b e = (b, e)
+left-over false (Some d) rest b e = (d, refl)
+
+choose-from : (q : Bool) (o rest : Option ℕ) (b : ℕ) → choose q o rest ≡ Some b → ((q ≡ false) × (o ≡ Some b)) ⊎ (rest ≡ Some b)
+choose-from true o rest b e = inr e
+choose-from false None rest b e = inr e
+choose-from false (Some d) rest b e = inl (refl, e)
+
+module _ (faulty : ℕ → Bool) (own : ℕ → Accepted) where
+  joined : ℕ → Accepted
+  joined zero o r = None
+  joined (suc m) o r = choose (faulty m) (own m o r) (joined m o r)
+
+  joined-some : (m i o r b : ℕ) → Correct m faulty i → own i o r ≡ Some b → (c : ℕ) × (joined m o r ≡ Some c)
+  unfolding joined
+  joined-some zero i o r b co e = absurd (omega (arith, co .0))
+  joined-some (suc m) i o r b co e =
+      ⊎-elim (λ (l : i < m). let c = joined-some m i o r b (l, co .1) e in left-over (faulty m) (own m o r) (joined m o r) (c .0) (c .1)) (λ (l : m ≤ i).
+      let is : i ≡ m = omega (arith, co .0) in
+      (b, chosen (faulty m) (own m o r) (joined m o r) b (subst (λ (k : ℕ). faulty k ≡ false) is (co .1)) (subst (λ (k : ℕ). own k o r ≡ Some b) is e))) (cases-lt i m)
+
+  joined-from : (m o r b : ℕ) → joined m o r ≡ Some b → (i : ℕ) × Correct m faulty i × (own i o r ≡ Some b)
+  unfolding joined
+  joined-from zero o r b e = absurd (none-some None b refl e)
+  joined-from (suc m) o r b e =
+      ⊎-elim (λ x. (m, (omega arith, x .0), x .1)) (λ x. let k = joined-from m o r b x in (k .0, (omega (arith, k .1 .0), k .1 .1), k .2)) (choose-from (faulty m) (own m o r) (joined m o r) b e)
+
+module _ (n : ℕ) (faulty : ℕ → Bool) (own : ℕ → Accepted) (alike : Alike n faulty own) where
+  whole : Accepted
+  whole = joined faulty own n
+
+  joins : Joins n faulty own whole
+  unfolding whole
+  joins = record {
+    part = λ i co o r b e.
+        let c = joined-some faulty own n i o r b co e in
+        let k = joined-from faulty own n o r (c .0) (c .1) in
+        c .1 ∙ ap Some (alike (k .0) i o r (c .0) b (k .1) co (k .2) e);
+    from = joined-from faulty own n;
+  }
+
+  pub join : (G : Accepted) × Joins n faulty own G
+  join = (whole, joins)
+
+pub decisions : (n t : ℕ) (faulty : ℕ → Bool) (own : ℕ → Accepted) → Resilient n t faulty → Alike n faulty own → Decisions n t faulty own
+decisions n t faulty own law alike =
+    let G = whole n faulty own alike in
+    let join = joins n faulty own alike in
+    record {
+      agreement = λ i j q r S T u v ci cj d e.
+          agreement n t (law .third) G (own i) (own j) (join .part i ci) (join .part j cj) q r (d .third) (e .third) S T u v (d .quorum) (e .quorum) (d .decides) (e .decides);
+      validity = λ v all i r S u ci d.
+          valid-decision n t G faulty law (own i) (join .part i ci) v (λ o b co x. let k = join .from o 0 b (held n t G 0 o b x) in all (k .0) o b (k .1) co (k .2)) r (d .third) S u (d .quorum) (d .decides);
+    }
