@@ -8,11 +8,15 @@ use Rattle.std.proofs.shelf.Tests.{both-ways, cases-lt}
 use Rattle.std.specs.declared.option.Option.{Option}
 use Rattle.std.specs.declared.option.Option.the-variants.{Some, None}
 use Rattle.agreement.proofs.Bodies.{none-some}
-use Rattle.consensus.specs.Rounds.{Accepted}
-use Rattle.consensus.specs.Validity.{Resilient, Correct}
-use Rattle.consensus.specs.Maps.{Alike, Joins, Decisions}
+use Rattle.protocol.specs.declared.votes.Side.{Side}
+use Rattle.protocol.specs.Numbers.{proposal}
+use Rattle.consensus.specs.Rounds.{Accepted, Third, kind, tally}
+use Rattle.consensus.specs.Validity.{Quorum, Resilient, Correct}
+use Rattle.consensus.specs.Decisions.{Kept, Settled, Unanimous}
+use Rattle.consensus.specs.Maps.{Alike, Joins, Decided, Votes, Lucky, Decisions}
 use Rattle.consensus.proofs.Tallies.{held}
-use Rattle.consensus.proofs.Theorem.{agreement, valid-decision}
+use Rattle.consensus.proofs.Steps.{all-kept, one-side}
+use Rattle.consensus.proofs.Theorem.{agreement, settled, lucky}
 
 -- what a correct process has, or else the rest
 abbrev choose : Bool → Option ℕ → Option ℕ → Option ℕ
@@ -71,13 +75,42 @@ module _ (n : ℕ) (faulty : ℕ → Bool) (own : ℕ → Accepted) (alike : Ali
   pub join : (G : Accepted) × Joins n faulty own G
   join = (whole, joins)
 
-pub decisions : (n t : ℕ) (faulty : ℕ → Bool) (own : ℕ → Accepted) → Resilient n t faulty → Alike n faulty own → Decisions n t faulty own
-decisions n t faulty own law alike =
-    let G = whole n faulty own alike in
-    let join = joins n faulty own alike in
-    record {
-      agreement = λ i j q r S T u v ci cj d e.
-          agreement n t (law .third) G (own i) (own j) (join .part i ci) (join .part j cj) q r (d .third) (e .third) S T u v (d .quorum) (e .quorum) (d .decides) (e .decides);
-      validity = λ v all i r S u ci d.
-          valid-decision n t G faulty law (own i) (join .part i ci) v (λ o b co x. let k = join .from o 0 b (held n t G 0 o b x) in all (k .0) o b (k .1) co (k .2)) r (d .third) S u (d .quorum) (d .decides);
+module _ (n t : ℕ) (faulty : ℕ → Bool) (own : ℕ → Accepted) (law : Resilient n t faulty) (G : Accepted) (join : Joins n faulty own G) where
+  kept : (i r : ℕ) → Correct n faulty i → Kept n t (own i) G r
+  kept i r ci = all-kept n t (own i) G (join .part i ci) r
+
+  unanimous : (r : ℕ) (v : Side) → Votes n faulty own r v → Unanimous n t faulty G r v
+  unanimous r v all o b co x = let k = join .from o r b (held n t G r o b x) in all (k .0) o b (k .1) co (k .2)
+
+  -- by an own set, what is settled is decided, and nothing else
+  module _ (q i : ℕ) (S : ℕ → Bool) (v : Side) (ci : Correct n faulty i) (here : Settled n t G q v) where
+    settled-own : kind q ≡ Third → Quorum n t (own i) q S → Decided n t own i q S v
+    settled-own e full = record {
+      third = e;
+      quorum = full;
+      decides = omega (arith, kept i q ci .tallies S full (proposal v), here .decided e S (kept i q ci .quorums S full));
     }
+
+    settled-only : (u : Side) → Decided n t own i q S u → u ≡ v
+    settled-only u d =
+        here .alone (d .third) S u (kept i q ci .quorums S (d .quorum)) (omega (arith, d .decides, kept i q ci .tallies S (d .quorum) (proposal u)))
+
+  own-decisions : Decisions n t faulty own
+  own-decisions = record {
+    agreement = λ i j q r S T u v ci cj d e.
+        agreement n t (law .third) G (own i) (own j) (join .part i ci) (join .part j cj) q r (d .third) (e .third) S T u v (d .quorum) (e .quorum) (d .decides) (e .decides);
+    forced = λ i j r S T u v ci cj s s₁ f g.
+        one-side n t G r .forced S T u v (kept i r ci .quorums S s) (kept j r cj .quorums T s₁) (omega (arith, kept i r ci .tallies S s (proposal u))) (omega (arith, kept j r cj .tallies T s₁ (proposal v)));
+    validity = λ r q i S u v e all l ci d. settled-only q i S v ci (settled n t G faulty law r v e (unanimous r v all) q l) u d;
+    unanimity = λ r q i S v e all l ci f full.
+        settled-own q i S v ci (settled n t G faulty law r v e (unanimous r v all) q l) f full;
+    luck = λ r q i S c used e lucky l ci f full.
+        settled-own q i S c ci (lucky-settled r c used e lucky q l) f full;
+  }
+    where
+      lucky-settled : (r : ℕ) (c : Side) (used : ℕ → ℕ → Bool) → kind r ≡ Third → Lucky n t faulty own r used c → (q : ℕ) → suc r < q → Settled n t G q c
+      lucky-settled r c used e l =
+          lucky n t G faulty law r c (λ o. tally n (own o) r (used o)) e (λ o b co x. let k = join .from o (suc r) b (held n t G (suc r) o b x) in l .said (k .0) o b (k .1) co (k .2)) (l .forced)
+
+pub decisions : (n t : ℕ) (faulty : ℕ → Bool) (own : ℕ → Accepted) → Resilient n t faulty → Alike n faulty own → Decisions n t faulty own
+decisions n t faulty own law alike = own-decisions n t faulty own law (whole n faulty own alike) (joins n faulty own alike)
