@@ -11,11 +11,12 @@ use Rattle.agreement.proofs.Bodies.{none-some}
 use Rattle.protocol.specs.declared.votes.Side.{Side}
 use Rattle.protocol.specs.Numbers.{proposal}
 use Rattle.consensus.specs.Rounds.{Accepted, Third, kind, tally}
-use Rattle.consensus.specs.Validity.{Quorum, Resilient, Correct}
-use Rattle.consensus.specs.Decisions.{Kept, Settled, Unanimous}
+use Rattle.consensus.specs.Validity.{Quorum, Justified, Part, Resilient, Correct}
+use Rattle.consensus.specs.Decisions.{Kept, Settled, Unanimous, Advances}
 use Rattle.consensus.specs.Maps.{Alike, Joins, Decided, Votes, Lucky, Decisions}
 use Rattle.consensus.proofs.Tallies.{held}
 use Rattle.consensus.proofs.Steps.{all-kept, one-side}
+use Rattle.consensus.proofs.Advancing.{enough}
 use Rattle.consensus.proofs.Theorem.{agreement, settled, lucky}
 
 -- what a correct process has, or else the rest
@@ -114,3 +115,7 @@ module _ (n t : ℕ) (faulty : ℕ → Bool) (own : ℕ → Accepted) (law : Res
 
 pub decisions : (n t : ℕ) (faulty : ℕ → Bool) (own : ℕ → Accepted) → Resilient n t faulty → Alike n faulty own → Decisions n t faulty own
 decisions n t faulty own law alike = own-decisions n t faulty own law (whole n faulty own alike) (joins n faulty own alike)
+
+pub going : (n t : ℕ) (faulty : ℕ → Bool) (own : ℕ → Accepted) → Resilient n t faulty → (i r : ℕ) → ((k : ℕ) → Correct n faulty k → Part (own k) (own i)) → ((k : ℕ) → Correct n faulty k → (b : ℕ) × Justified n t (own k) r b × (own i k r ≡ Some b)) → (S : ℕ → Bool) × Advances n t (own i) r S
+going n t faulty own law i r part said =
+    enough n t faulty law (own i) r (λ k ck. let h = said k ck in (h .0, all-kept n t (own k) (own i) (part k ck) r .justified k (h .0) (h .1) (h .2)))

@@ -6,8 +6,8 @@ use Rattle.std.specs.declared.option.Option.the-variants.{Some}
 use Rattle.protocol.specs.declared.votes.Side.{Side}
 use Rattle.protocol.specs.Numbers.{ballotNumber, vote}
 use Rattle.consensus.specs.Rounds.{Accepted, First, Third, kind, tally, Forces, Decides}
-use Rattle.consensus.specs.Validity.{Quorum, Part, Resilient, Correct}
-use Rattle.consensus.specs.Decisions.{Tossed}
+use Rattle.consensus.specs.Validity.{Quorum, Justified, Part, Resilient, Correct}
+use Rattle.consensus.specs.Decisions.{Tossed, Advances}
 
 -- correct processes have accepted alike: own i is the map of process i
 abbrev pub Alike : ℕ → (ℕ → Bool) → (ℕ → Accepted) → Type 0
@@ -50,3 +50,8 @@ pub record Decisions (n t : ℕ) (faulty : ℕ → Bool) (own : ℕ → Accepted
 
 abbrev pub Deciding : Type 0
 Deciding = (n t : ℕ) (faulty : ℕ → Bool) (own : ℕ → Accepted) → Resilient n t faulty → Alike n faulty own → Decisions n t faulty own
+
+-- Where process i has all that correct processes accepted, and a ballot of round r of each that this process may say, it
+-- can advance from round r.
+abbrev pub Going : Type 0
+Going = (n t : ℕ) (faulty : ℕ → Bool) (own : ℕ → Accepted) → Resilient n t faulty → (i r : ℕ) → ((k : ℕ) → Correct n faulty k → Part (own k) (own i)) → ((k : ℕ) → Correct n faulty k → (b : ℕ) × Justified n t (own k) r b × (own i k r ≡ Some b)) → (S : ℕ → Bool) × Advances n t (own i) r S
