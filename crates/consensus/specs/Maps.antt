@@ -31,8 +31,8 @@ pub record Decided (n t : ℕ) (own : ℕ → Accepted) (i r : ℕ) (S : ℕ →
 abbrev pub Votes : ℕ → (ℕ → Bool) → (ℕ → Accepted) → ℕ → Side → Type 0
 Votes n faulty own r v = (i o b : ℕ) → Correct n faulty i → Correct n faulty o → own i o r ≡ Some b → b ≡ ballotNumber (vote v)
 
--- Each correct process o went from the third round r by the set used o: its next ballot is the side that the set forces,
--- or else c, and no such set forces another side than c.
+-- Each correct process o left the third round r by the set used o: its next ballot is the side that the set forces, or
+-- else c, and no such set forces another side than c.
 pub record Lucky (n t : ℕ) (faulty : ℕ → Bool) (own : ℕ → Accepted) (r : ℕ) (used : ℕ → ℕ → Bool) (c : Side) : Type 0 where
   pub said : (i o b : ℕ) → Correct n faulty i → Correct n faulty o → own i o (suc r) ≡ Some b → Tossed t (tally n (own o) r (used o)) c b
   pub forced : (o : ℕ) (v : Side) → Correct n faulty o → Forces t (tally n (own o) r (used o)) v → v ≡ c
@@ -51,7 +51,7 @@ pub record Decisions (n t : ℕ) (faulty : ℕ → Bool) (own : ℕ → Accepted
 abbrev pub Deciding : Type 0
 Deciding = (n t : ℕ) (faulty : ℕ → Bool) (own : ℕ → Accepted) → Resilient n t faulty → Alike n faulty own → Decisions n t faulty own
 
--- Where process i has all that correct processes accepted, and a ballot of round r of each that this process may say, it
+-- Where process i has all that correct processes accepted, and of each a ballot of round r that this one may say, it
 -- can advance from round r.
 abbrev pub Going : Type 0
 Going = (n t : ℕ) (faulty : ℕ → Bool) (own : ℕ → Accepted) → Resilient n t faulty → (i r : ℕ) → ((k : ℕ) → Correct n faulty k → Part (own k) (own i)) → ((k : ℕ) → Correct n faulty k → (b : ℕ) × Justified n t (own k) r b × (own i k r ≡ Some b)) → (S : ℕ → Bool) × Advances n t (own i) r S
