@@ -4,3 +4,4 @@ pub mod Steps
 pub mod Theorem
 pub mod Advancing
 pub mod Example
+pub mod Joins

@@ -12,7 +12,7 @@ use Rattle.protocol.specs.Numbers.{ballotNumber, vote, proposal}
 use Rattle.protocol.proofs.Counting.{below-alike}
 use Rattle.agreement.specs.Records.{has}
 use Rattle.consensus.specs.Rounds.{Accepted, Kind, First, Second, Third, kind, tally, Forces, Most, ahead, Allows, ballotFor}
-use Rattle.consensus.specs.Validity.{Valid, Quorum, Part}
+use Rattle.consensus.specs.Validity.{Valid, Quorum, Justified, Part}
 use Rattle.consensus.specs.Decisions.{Kept, OneSide}
 use Rattle.consensus.proofs.Sides.{other, vote-side, proposal-side, side-of, not-vote, not-open, not-other, ahead-is, after, kind-after}
 use Rattle.consensus.proofs.Tallies.{held, most-meet, valid-sayer, tally-all}
@@ -44,13 +44,15 @@ module _ (n t : ℕ) (A G : Accepted) (part : Part A G) where
       let full : Quorum n t A r S = v .1 .1 in
       (part o (suc r) b (v .0), (S, quorum-kept r (valid-kept r) S full, allows-kept r (valid-kept r) S full b (v .1 .2)))
 
-  next-kept : (r : ℕ) (S : ℕ → Bool) → Quorum n t A r S → (o b : ℕ) → Allows n t (kind r) (tally n A r S) b → G o (suc r) ≡ Some b → Valid n t G (suc r) o b
+  justified-kept : (r o b : ℕ) → Justified n t A r b → G o r ≡ Some b → Valid n t G r o b
   unfolding Valid
-  next-kept r S full o b a e = (e, (S, quorum-kept r (valid-kept r) S full, allows-kept r (valid-kept r) S full b a))
+  justified-kept zero o b j e = (e, j)
+  justified-kept (suc r) o b j e =
+      (e, (j .0, quorum-kept r (valid-kept r) (j .0) (j .1), allows-kept r (valid-kept r) (j .0) (j .1) b (j .2)))
 
   pub all-kept : (r : ℕ) → Kept n t A G r
   all-kept r =
-      record { ballots = valid-kept r; quorums = quorum-kept r (valid-kept r); tallies = tally-kept r (valid-kept r); next = next-kept r }
+      record { ballots = valid-kept r; quorums = quorum-kept r (valid-kept r); tallies = tally-kept r (valid-kept r); justified = justified-kept r }
 
 -- the counts of a set of a round of kind q, if it allows no side but v
 abbrev pub Carries : ℕ → ℕ → Kind → (Ballot → ℕ) → Side → Type 0

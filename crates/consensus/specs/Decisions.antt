@@ -10,15 +10,15 @@ use Rattle.protocol.specs.declared.votes.Ballot.{Ballot}
 use Rattle.protocol.specs.Counting.{below}
 use Rattle.protocol.specs.Numbers.{ballotNumber, vote, proposal}
 use Rattle.consensus.specs.Rounds.{Accepted, First, Third, kind, tally, Forces, Decides, Allows, ballotFor}
-use Rattle.consensus.specs.Validity.{Valid, Quorum, lowest, Part, Resilient, Correct}
+use Rattle.consensus.specs.Validity.{Valid, Quorum, Justified, lowest, Part, Resilient, Correct}
 
 -- What is valid in a part is valid in the whole, and a set says there what it says here.
 pub record Kept (n t : ℕ) (A G : Accepted) (r : ℕ) : Type 0 where
   pub ballots : (o b : ℕ) → Valid n t A r o b → Valid n t G r o b
   pub quorums : (S : ℕ → Bool) → Quorum n t A r S → Quorum n t G r S
   pub tallies : (S : ℕ → Bool) → Quorum n t A r S → (b : Ballot) → tally n A r S b ≡ tally n G r S b
-  -- what a set of the part allows is valid in the whole, once it is accepted there
-  pub next : (S : ℕ → Bool) → Quorum n t A r S → (o b : ℕ) → Allows n t (kind r) (tally n A r S) b → G o (suc r) ≡ Some b → Valid n t G (suc r) o b
+  -- what may be said by the part is valid in the whole, once it is accepted there
+  pub justified : (o b : ℕ) → Justified n t A r b → G o r ≡ Some b → Valid n t G r o b
 
 abbrev pub Monotone : Type 0
 Monotone = (n t : ℕ) (A G : Accepted) → Part A G → (r : ℕ) → Kept n t A G r

@@ -1,3 +1,4 @@
 pub mod Rounds
 pub mod Validity
 pub mod Decisions
+pub mod Maps

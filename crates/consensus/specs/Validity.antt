@@ -25,6 +25,11 @@ Valid n t G (suc r) o b =
 abbrev pub Quorum : ℕ → ℕ → Accepted → ℕ → (ℕ → Bool) → Type 0
 Quorum n t G r S = Full n t (Valid n t G r) S
 
+-- what a process that has accepted A may say in round r
+abbrev pub Justified : ℕ → ℕ → Accepted → ℕ → ℕ → Type 0
+Justified n t A zero b = (v : Side) × (b ≡ ballotNumber (vote v))
+Justified n t A (suc r) b = (S : ℕ → Bool) × Quorum n t A r S × Allows n t (kind r) (tally n A r S) b
+
 -- the m lowest k that pass the test
 unfoldable pub lowest : ℕ → (ℕ → Bool) → ℕ → Bool
 lowest m p k = p k && ltb (below k p) m

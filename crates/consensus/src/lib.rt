@@ -1,6 +1,7 @@
 //! Consensus on one case: which ballots are valid, and what sets of them decide. No code runs here: each function
 //! carries a theorem.
 ghost use Rattle.consensus.specs.Decisions.{Monotone, Proposals, Locking, Settling, Validity, Agreement, Luck, Lowest, Enough, Happens};
+ghost use Rattle.consensus.specs.Maps.{Joining, Deciding, Going};
 ghost use Rattle.consensus.specs.Rounds.{Accepted};
 ghost use Rattle.protocol.specs.declared.votes.Side.{Side};
 ghost use mathlib.Core.Bool.{Bool};
@@ -42,6 +43,14 @@ pub fn decisions_agree() -> u8
     0
 }
 
+// The maps of correct processes that accept alike are parts of one, and so what they decide by them agrees.
+pub fn maps_join() -> u8
+    ensures joining { λ _. ⌜ Joining ⌝ }
+    ensures deciding { λ _. ⌜ Deciding ⌝ }
+{
+    0
+}
+
 // A coin that shows what is forced ends the case in the phase after.
 pub fn luck_settles() -> u8
     ensures { λ _. ⌜ Luck ⌝ }
@@ -53,6 +62,7 @@ pub fn luck_settles() -> u8
 pub fn rounds_go_on() -> u8
     ensures lowest { λ _. ⌜ Lowest ⌝ }
     ensures enough { λ _. ⌜ Enough ⌝ }
+    ensures going { λ _. ⌜ Going ⌝ }
 {
     0
 }
