@@ -1,5 +1,7 @@
 //! Reliable broadcast as an abstract machine, and what holds in each of its runs. No code runs here: each function
 //! carries a theorem.
+#![tactic(auto)]
+
 ghost use Rattle.agreement.specs.Worlds.{Counting};
 ghost use Rattle.agreement.specs.Runs.{State};
 ghost use Rattle.agreement.specs.Broadcasts.{Weighed, Counted, Lasting, Happens};

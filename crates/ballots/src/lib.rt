@@ -1,4 +1,6 @@
 // Which ballots of a case are valid at a process.
+#![tactic(auto)]
+
 pub mod allowing;
 pub mod counting;
 pub mod rows;

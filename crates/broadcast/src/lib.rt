@@ -1,4 +1,6 @@
 // What a message does at one process for one subject.
+#![tactic(auto)]
+
 pub mod reactions;
 pub mod receiving;
 

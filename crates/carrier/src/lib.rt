@@ -1,4 +1,6 @@
 // What brings messages from one process to another. A carrier is known only by the messages that wait in it and by its capacity.
+#![tactic(auto)]
+
 ghost use Rattle.std.specs.Prelude.{◌≡◌, ℕ, ◌-◌, ◌≤◌, true, List, [], length, IfOk, OnOk, ◌==◌};
 ghost use Rattle.protocol.specs.declared.messages.Message.{Message};
 ghost use Rattle.carrier.specs.Waiting.{capped, waiting_for, Posted, Taken};

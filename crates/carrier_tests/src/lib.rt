@@ -1,3 +1,5 @@
 // Tests of the carriers through their trait.
+#![tactic(auto)]
+
 #[cfg(test)]
 mod tests;

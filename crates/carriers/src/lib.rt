@@ -1,4 +1,6 @@
 // Three carriers over lent memory, a place for each message. They differ in which message they take.
+#![tactic(auto)]
+
 pub mod baskets;
 pub mod piles;
 pub mod queues;

@@ -1,4 +1,6 @@
 // Coins that choose a side where the ballots force none.
+#![tactic(auto)]
+
 pub mod coins;
 pub mod strips;
 pub mod words;

@@ -1,5 +1,7 @@
 //! Consensus on one case: which ballots are valid, and what sets of them decide. No code runs here: each function
 //! carries a theorem.
+#![tactic(auto)]
+
 ghost use Rattle.consensus.specs.Decisions.{Monotone, Proposals, Locking, Settling, Validity, Agreement, Luck, Lowest, Enough, Happens};
 ghost use Rattle.consensus.specs.Maps.{Joining, Deciding, Going};
 ghost use Rattle.consensus.specs.Rounds.{Accepted};

@@ -1,5 +1,7 @@
 //! Tells the way of a violin over a line of four counters, of which one is strange, to the end of a case about it. Writes
 //! to standard output.
+#![tactic(auto)]
+
 mod cases;
 mod story;
 mod turns;

@@ -1,4 +1,6 @@
 // The values that a message's body can stand for.
+#![tactic(auto)]
+
 pub mod ballots;
 pub mod items;
 pub mod records;

@@ -1,4 +1,6 @@
 // Opening a line, and the five turns on it.
+#![tactic(auto)]
+
 pub mod advancing;
 pub mod announcing;
 pub mod case_opening;

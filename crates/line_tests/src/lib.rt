@@ -1,3 +1,5 @@
 // Tests of the calls on a line, over several carriers.
+#![tactic(auto)]
+
 #[cfg(test)]
 mod tests;

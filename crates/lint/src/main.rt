@@ -1,4 +1,6 @@
 //! Checks a rehearsal script, from standard input to standard output.
+#![tactic(auto)]
+
 use script::lint;
 use std::io;
 use std::io::{Read, Write};

@@ -1,4 +1,6 @@
 // The memory of a line: four slices that the caller lends, and where in them each thing is kept.
+#![tactic(auto)]
+
 pub mod memories;
 pub mod places;
 pub mod records;

@@ -1,4 +1,6 @@
 // What every crate speaks of: messages, ballots and refusals.
+#![tactic(auto)]
+
 pub mod messages;
 pub mod refusals;
 pub mod votes;

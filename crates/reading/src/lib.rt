@@ -1,4 +1,6 @@
 // Reading what a process has accepted.
+#![tactic(auto)]
+
 pub mod readings;
 
 pub use readings::Reading;

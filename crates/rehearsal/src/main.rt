@@ -1,4 +1,6 @@
 //! Rehearses a script, from standard input to standard output.
+#![tactic(auto)]
+
 use rehearse::rehearse;
 use std::io;
 use std::io::{Read, Write};

@@ -1,5 +1,7 @@
 //! The rules of turns, what a run of turns tells, and what holds of every run. No code runs here: each function carries a
 //! theorem.
+#![tactic(auto)]
+
 pub mod answers;
 
 ghost use Rattle.std.specs.Prelude.{ℕ};

@@ -1,4 +1,6 @@
 //! A rehearsal script as a whole: its lines, its faults, and the check of every line.
+#![tactic(auto)]
+
 mod fault;
 mod linter;
 

@@ -1,4 +1,6 @@
 // Release slips: what a clerk hands over an item for.
+#![tactic(auto)]
+
 pub mod giving_back;
 pub mod issuing;
 pub mod slip;

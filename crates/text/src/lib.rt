@@ -1,5 +1,7 @@
 //! A text under construction. Each call takes the text and gives it back longer; where memory
 //! runs out the text is let go, so that none is ever half written.
+#![tactic(auto)]
+
 ghost use Rattle.std.specs.Prelude.{◌≡◌, [], ◌++◌, IfOk, decimal};
 ghost use Rattle.text.specs.Shown.{shown};
 

@@ -1,4 +1,6 @@
 // A layer over any carrier, which keeps some messages itself.
+#![tactic(auto)]
+
 mod tables;
 pub mod trays;
 

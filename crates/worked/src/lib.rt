@@ -1,4 +1,6 @@
 //! Nine worked rows, in one table with one proof.
+#![tactic(auto)]
+
 ghost use Rattle.worked.specs.Rows.{All, table};
 
 // What the definitions give for numbers that can be followed by hand. This function only carries the theorem.
