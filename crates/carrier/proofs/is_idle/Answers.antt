@@ -4,8 +4,8 @@ use Rattle.carrier.specs.Waiting.{addressed}
 use Rattle.carrier.proofs.Counts.{count_le_length, none_waits}
 use Rattle.carrier.proofs.is_idle.Goals as goal
 
-pub returns-then-waiting-for-gt0 : goal.returns-then-waiting-for-gt0
-returns-then-waiting-for-gt0 g c =
+pub returns-then-waiting_for-gt0 : goal.returns-then-waiting_for-gt0
+returns-then-waiting_for-gt0 g c =
     let ms = g.C.Carrier.waiting c.args.carrier.now in
     record {
       value = sym (ne_eqb (length ms) 0 (λ e. omega (arith, count_le_length (addressed c.loop-process.process) ms)));

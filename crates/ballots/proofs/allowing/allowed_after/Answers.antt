@@ -7,20 +7,20 @@ use Rattle.ballots.proofs.allowing.allowed_after.Goals as goal
 pub returns-in-1 : goal.returns-in-1
 unfolding after
 returns-in-1 c =
-    c.after-first.ensures
+    c.after_first.ensures
     ∙ (λ i. after_first (c.n.ensures i - c.t.ensures i) c.args.tally)
     ∙ sym (ap (λ (q : Kind). after c.args.plan.now.n c.args.plan.now.t q c.args.tally) (is_first (c.args.round - 1) (omega arith)))
 
 pub returns-in-2 : goal.returns-in-2
 unfolding after
 returns-in-2 c =
-    c.after-second.ensures
+    c.after_second.ensures
     ∙ (λ i. after_second (c.n-in-2.ensures i) (c.n.ensures i - c.t.ensures i) c.args.tally)
     ∙ sym (ap (λ (q : Kind). after c.args.plan.now.n c.args.plan.now.t q c.args.tally) (is_second (c.args.round - 1) (omega arith)))
 
-pub returns-in-default : goal.returns-in-default
+pub returns-in_default : goal.returns-in_default
 unfolding after
-returns-in-default c =
-    c.after-third.ensures
-    ∙ (λ i. after_third (c.t-in-default.ensures i) (c.n.ensures i - c.t.ensures i) c.args.tally)
+returns-in_default c =
+    c.after_third.ensures
+    ∙ (λ i. after_third (c.t-in_default.ensures i) (c.n.ensures i - c.t.ensures i) c.args.tally)
     ∙ sym (ap (λ (q : Kind). after c.args.plan.now.n c.args.plan.now.t q c.args.tally) (is_third (c.args.round - 1) (omega arith)))

@@ -9,20 +9,20 @@ use Rattle.ballots.proofs.Reading.{first_row, next_row, last_row, valid_row, cov
 use Rattle.ballots.proofs.rows.valid_ballots.Goals as goal
 
 pub loop-before-init : goal.loop-before-init
-loop-before-init c = first_row c.args.plan.now (held c.args.memory.now) c.args.process c.args.case _ c.sifted-row-row.ensures
+loop-before-init c = first_row c.args.plan.now (held c.args.memory.now) c.args.process c.args.case _ c.sifted_row-row.ensures
 
-pub allowed-after-allowed-requires : goal.allowed-after-allowed-requires
-allowed-after-allowed-requires c = (omega arith, subst Few (sym c.count.ensures) (counts_few (cell c.loop-before.row)))
+pub allowed_after-allowed-requires : goal.allowed_after-allowed-requires
+allowed_after-allowed-requires c = (omega arith, subst Few (sym c.count.ensures) (counts_few (cell c.loop-before.row)))
 
 pub loop-before-preserved : goal.loop-before-preserved
 loop-before-preserved c =
-    next_row c.args.plan.now (held c.args.memory.now) c.args.process c.args.case c.loop-before.before c.loop-before.row _ c.allowed-after-allowed.result (omega arith) c.loop-before.invariant (c.allowed-after-allowed.ensures ∙ ap (after c.args.plan.now.n c.args.plan.now.t (kind (c.loop-before.before - 1))) c.count.ensures) c.sifted-row-row-in-loop-before.ensures
+    next_row c.args.plan.now (held c.args.memory.now) c.args.process c.args.case c.loop-before.before c.loop-before.row _ c.allowed_after-allowed.result (omega arith) c.loop-before.invariant (c.allowed_after-allowed.ensures ∙ ap (after c.args.plan.now.n c.args.plan.now.t (kind (c.loop-before.before - 1))) c.count.ensures) c.sifted_row-row-in-loop-before.ensures
 
 pub returns : goal.returns
 returns c =
     let plan = c.args.plan.now in
     let h = held c.args.memory.now in
-    let is : covers plan h c.args.process c.args.case c.args.round ≡ true = cc (c.is-covered.ensures, c.if-not-is-covered.false) in
+    let is : covers plan h c.args.process c.args.case c.args.round ≡ true = cc (c.is_covered.ensures, c.if-not-is_covered.false) in
     let found = covered plan h c.args.process c.args.case c.args.round is in
     let value = last_row plan h c.args.process c.args.case c.args.round c.loop-before.row c.loop-before.before is (omega (arith, found.first)) c.loop-before.invariant in
     record { value = value; valid = valid_row plan h c.args.process c.args.case c.args.round _ value }

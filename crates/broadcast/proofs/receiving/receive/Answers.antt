@@ -11,7 +11,7 @@ returns-in-Accepted c =
     let h = held c.args.memory.now in
     let p = c.in-Some.place in
     let known = c.in-Some.ensures in
-    let a = admitted c.args.plan.now c.args.process m h p _ _ (omega arith) c.is-enough.ensures c.if-not-is-enough.false c.subject.ensures known.value known.laid in
+    let a = admitted c.args.plan.now c.args.process m h p _ _ (omega arith) c.is_enough.ensures c.if-not-is_enough.false c.subject.ensures known.value known.laid in
     accepted_stays c.args.plan.now p m h c.in-Accepted.field-0 c.in-Accepted.ensures ∙ a.handles
 
 pub listen-count-requires : goal.listen-count-requires
@@ -19,15 +19,15 @@ listen-count-requires c =
     let m = c.args.message.now in
     let h = held c.args.memory.now in
     let known = c.in-Some.ensures in
-    let a = admitted c.args.plan.now c.args.process m h c.in-Some.place _ _ (omega arith) c.is-enough.ensures c.if-not-is-enough.false c.subject.ensures known.value known.laid in
+    let a = admitted c.args.plan.now c.args.process m h c.in-Some.place _ _ (omega arith) c.is_enough.ensures c.if-not-is_enough.false c.subject.ensures known.value known.laid in
     (omega arith, a.echoes, a.readies)
 
-pub turn-stage-requires : goal.turn-stage-requires
-turn-stage-requires c =
+pub turn_stage-requires : goal.turn_stage-requires
+turn_stage-requires c =
     let m = c.args.message.now in
     let h = held c.args.memory.now in
     let known = c.in-Some.ensures in
-    let a = admitted c.args.plan.now c.args.process m h c.in-Some.place _ _ (omega arith) c.is-enough.ensures c.if-not-is-enough.false c.subject.ensures known.value known.laid in (
+    let a = admitted c.args.plan.now c.args.process m h c.in-Some.place _ _ (omega arith) c.is_enough.ensures c.if-not-is_enough.false c.subject.ensures known.value known.laid in (
       omega (arith, a.at, ap (λ (x : Held). length x.broadcasts) c.listen-count.ensures.held),
       omega (arith, c.thresholds.ensures.sound.enough),
     )
@@ -39,12 +39,12 @@ returns c =
     let p = c.in-Some.place in
     let known = c.in-Some.ensures in
     let after = held c.listen-count.new.memory in
-    let a = admitted c.args.plan.now c.args.process m h p _ _ (omega arith) c.is-enough.ensures c.if-not-is-enough.false c.subject.ensures known.value known.laid in
+    let a = admitted c.args.plan.now c.args.process m h p _ _ (omega arith) c.is_enough.ensures c.if-not-is_enough.false c.subject.ensures known.value known.laid in
     (λ i.
-    outcome (record { broadcasts = c.turn-stage.ensures.stage i; bodies = after.bodies; cases = after.cases; serials = after.serials })
-    (c.turn-stage.ensures.reaction i))
+    outcome (record { broadcasts = c.turn_stage.ensures.stage i; bodies = after.bodies; cases = after.cases; serials = after.serials })
+    (c.turn_stage.ensures.reaction i))
     ∙ settles c.args.plan.now p m h c.thresholds.result c.listen-count.result after
-    (λ b e. c.in-default-stage.not-Accepted b (c.stage.ensures ∙ e))
+    (λ b e. c.in_default-stage.not-Accepted b (c.stage.ensures ∙ e))
     c.thresholds.ensures.value
     c.listen-count.ensures.held
     c.listen-count.ensures.count

@@ -11,8 +11,8 @@ use Rattle.cases.proofs.choosing.choose_lowest.Goals as goal
 pub loop-k-init : goal.loop-k-init
 loop-k-init c = (sym (below_none (stands (cell c.args.row.now))), filled_none _)
 
-pub overflow-add-seen : goal.overflow-add-seen
-overflow-add-seen c = omega (arith, below_le c.loop-k.k (stands (cell c.args.row.now)), at_most_one (stands (cell c.args.row.now) c.loop-k.k), c.one-seen.ensures)
+pub overflow_add-seen : goal.overflow_add-seen
+overflow_add-seen c = omega (arith, below_le c.loop-k.k (stands (cell c.args.row.now)), at_most_one (stands (cell c.args.row.now) c.loop-k.k), c.one-seen.ensures)
 
 pub loop-k-preserved : goal.loop-k-preserved
 unfolding lowest

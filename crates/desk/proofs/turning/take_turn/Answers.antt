@@ -16,12 +16,12 @@ returns c =
     let h = held c.args.memory.now in
     let ws = waiting_in c.args.basket.now in
     let places = places_of c.args.basket.now in
-    let turn = c.in-ok-turn.turn in
+    let turn = c.in_ok-turn.turn in
     let word = c.new.ensures in
     record {
       turn =
           performed waiting_in line (λ process. word_side c.new.result.word) h places c.args.basket.now number_of turn c.perform.result (held c.perform.new.memory) c.perform.new.carrier c.perform.ensures.event
           ∙ (ap (λ (w : ℕ). act line (λ process. word_side w) h ws places (asked number_of turn)) word
-          ∙ ap (turns places line h ws) c.in-ok-turn.ensures);
+          ∙ ap (turns places line h ws) c.in_ok-turn.ensures);
       kept = c.perform.ensures.kept;
     }

@@ -6,9 +6,9 @@ use Rattle.desk.proofs.writing.put_pair.Goals as goal
 
 pub returns : goal.returns
 returns c =
-    let words = c.in-ok-put.ensures in
-    let first = c.in-ok-put-number.ensures in
-    let between = c.in-ok-put-2.ensures in
-    let second = c.in-ok-put-number-2.ensures in
+    let words = c.in_ok-put.ensures in
+    let first = c.in_ok-put_number.ensures in
+    let between = c.in_ok-put-2.ensures in
+    let second = c.in_ok-put_number-2.ensures in
     let all = extended_joined (shown c.args.text) (c.args.head.now ∷ decimal c.args.a ∷ c.args.middle.now ∷ decimal c.args.b ∷ codes "))" ∷ []) in
     IfOk-weaker c.put-3.result _ _ (λ t e. cc) c.put-3.ensures

@@ -14,12 +14,12 @@ all_done : (x w ms : List ℕ) (i : ℕ) → length ms ≤ i → x ++ marked (dr
 all_done x w ms i h inv = sym (append-nil x) ∙ (ap (λ v. x ++ v) (sym (at_drop_all marked ms i h)) ∙ inv)
 
 pub loop-mark-init : goal.loop-mark-init
-loop-mark-init c = ap (λ ms. shown c.args.text ++ marked ms) c.as-slice-mark-items.ensures
+loop-mark-init c = ap (λ ms. shown c.args.text ++ marked ms) c.as_slice-mark-items.ensures
 
 pub loop-mark-preserved : goal.loop-mark-preserved
 loop-mark-preserved c =
-    one_more (shown c.loop-mark.text) (shown c.in-ok-put.field-0) (shown c.in-ok-text.text) _ c.as-slice-mark-items.result.now c.loop-mark.mark-index (omega arith)
-    c.in-ok-put.ensures c.in-ok-text.ensures c.loop-mark.invariant
+    one_more (shown c.loop-mark.text) (shown c.in_ok-put.field-0) (shown c.in_ok-text.text) _ c.as_slice-mark-items.result.now c.loop-mark.mark-index (omega arith)
+    c.in_ok-put.ensures c.in_ok-text.ensures c.loop-mark.invariant
 
 pub returns : goal.returns
-returns c = all_done (shown c.loop-mark.text) _ c.as-slice-mark-items.result.now c.loop-mark.mark-index (omega arith) c.loop-mark.invariant
+returns c = all_done (shown c.loop-mark.text) _ c.as_slice-mark-items.result.now c.loop-mark.mark-index (omega arith) c.loop-mark.invariant

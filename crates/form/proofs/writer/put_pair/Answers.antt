@@ -6,6 +6,6 @@ use Rattle.form.proofs.writer.put_pair.Goals as goal
 
 pub returns : goal.returns
 returns c =
-    let two = c.in-ok-put-two.ensures in
+    let two = c.in_ok-put_two.ensures in
     let all = extended_joined (shown c.args.text) (c.args.head.now ∷ decimal c.args.a ∷ c.args.middle.now ∷ decimal c.args.b ∷ codes "))" ∷ []) in
     IfOk-weaker c.put.result _ _ (λ t e. cc) c.put.ensures

@@ -5,18 +5,18 @@ use Rattle.text.proofs.Chain.{extended_joined}
 use Rattle.form.specs.Format.{subjected}
 use Rattle.form.proofs.writer.put_subject.Goals as goal
 
-pub returns-in-ok-put-two : goal.returns-in-ok-put-two
-returns-in-ok-put-two c =
-    let two = c.in-ok-put-two.ensures in
+pub returns-in_ok-put_two : goal.returns-in_ok-put_two
+returns-in_ok-put_two c =
+    let two = c.in_ok-put_two.ensures in
     let is = ap subjected c.in-Item.is in
     let all = extended_joined (shown c.args.text) (codes "(item " ∷ decimal c.in-Item.originator ∷ codes " " ∷ decimal c.in-Item.serial ∷ codes ")" ∷ []) in
     IfOk-weaker c.put.result _ _ (λ t e. cc) c.put.ensures
 
-pub returns-in-ok-put-number : goal.returns-in-ok-put-number
-returns-in-ok-put-number c =
-    let two = c.in-ok-put-two-2.ensures in
-    let space = c.in-ok-put.ensures in
-    let third = c.in-ok-put-number.ensures in
+pub returns-in_ok-put_number : goal.returns-in_ok-put_number
+returns-in_ok-put_number c =
+    let two = c.in_ok-put_two-2.ensures in
+    let space = c.in_ok-put.ensures in
+    let third = c.in_ok-put_number.ensures in
     let is = ap subjected c.in-Ballot.is in
     let all = extended_joined (shown c.args.text) (codes "(ballot " ∷ decimal c.in-Ballot.originator ∷ codes " " ∷ decimal c.in-Ballot.case ∷ codes " " ∷ decimal c.in-Ballot.round ∷ codes ")" ∷ []) in
     IfOk-weaker c.put-in-Ballot-2.result _ _ (λ t e. cc) c.put-in-Ballot-2.ensures

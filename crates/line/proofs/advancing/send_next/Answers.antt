@@ -22,8 +22,8 @@ returns-then-round-phases g c =
       count = ap (λ (ms : List Message). length ms) (sym none);
     }
 
-pub send-to-all-requires : goal.send-to-all-requires
-send-to-all-requires g c =
+pub send_to_all-requires : goal.send_to_all-requires
+send_to_all-requires g c =
     let line = c.args.line.now in
     let carrier = g.C.Carrier in
     let phases = c.phases.ensures ∙ ap (λ (p : Plan). p.phases) c.plan-plan.ensures in
@@ -42,6 +42,6 @@ returns g c =
     let whole : to_all c.n.result i Initial subject c.number.result ≡ ballots line i c.args.case c.args.round c.args.ballot =
     (λ j. to_all (n j) i Initial subject (c.number.ensures j)) ∙ sym (cond-true _ _ _ (lt-ltb c.args.round (3 * line.plan.phases) (omega (arith, phases)))) in
     record {
-      sent = subst (λ (ms : List Message). Sent carrier.waiting carrier.capacity carrier.posting c.args.carrier.now ms c.send-to-all.new.carrier) whole c.send-to-all.ensures.sent;
-      count = c.send-to-all.ensures.count ∙ ap (λ (ms : List Message). length ms) whole;
+      sent = subst (λ (ms : List Message). Sent carrier.waiting carrier.capacity carrier.posting c.args.carrier.now ms c.send_to_all.new.carrier) whole c.send_to_all.ensures.sent;
+      count = c.send_to_all.ensures.count ∙ ap (λ (ms : List Message). length ms) whole;
     }

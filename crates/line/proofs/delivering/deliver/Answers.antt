@@ -9,17 +9,17 @@ use Rattle.line.proofs.Rows.{nothing_sent}
 use Rattle.line.proofs.Taking.{may_deliver, room_left, drops, reacts, took}
 use Rattle.line.proofs.delivering.deliver.Goals as goal
 
-pub returns-then-is-faulty : goal.returns-then-is-faulty
-returns-then-is-faulty g c =
+pub returns-then-is_faulty : goal.returns-then-is_faulty
+returns-then-is_faulty g c =
     let carrier = g.C.Carrier in
     let line = c.args.line.now in
     let h = held c.args.memory.now in
     let before = c.args.carrier.now in
     let mid = c.take.new.self in
-    let m = c.in-ok-message.message in
-    let taken = c.in-ok-message.ensures in
-    let role : faulty line c.args.process ≡ true = sym c.is-faulty.ensures.value ∙ c.if-is-faulty.true in
-    let allowed = may_deliver line h c.args.process c.args.pick m (carrier.waiting before) (carrier.waiting mid) taken.taken (carrier.capacity before) c.in-ok-check-process.ensures.first c.in-ok-check-room.ensures in
+    let m = c.in_ok-message.message in
+    let taken = c.in_ok-message.ensures in
+    let role : faulty line c.args.process ≡ true = sym c.is_faulty.ensures.value ∙ c.if-is_faulty.true in
+    let allowed = may_deliver line h c.args.process c.args.pick m (carrier.waiting before) (carrier.waiting mid) taken.taken (carrier.capacity before) c.in_ok-check_process.ensures.first c.in_ok-check_room.ensures in
     record {
       turn =
           took line h c.args.process c.args.pick m (carrier.waiting before) (carrier.waiting mid) taken.taken {waiting = carrier.waiting} {capacity = carrier.capacity} before mid mid _ h (outcome h nothing) refl taken.told allowed
@@ -37,10 +37,10 @@ reply-posted-requires g c =
     let line = c.args.line.now in
     let before = c.args.carrier.now in
     let mid = c.take.new.self in
-    let taken = c.in-ok-message.ensures in
+    let taken = c.in_ok-message.ensures in
     let n = ap (λ (p : Plan). p.n) c.plan-plan.ensures in
-    let role : faulty line c.args.process ≡ false = sym c.is-faulty.ensures.value ∙ c.if-is-faulty.false in
-    let room = room_left line (held c.args.memory.now) c.args.process c.args.pick c.in-ok-message.message (carrier.waiting before) (carrier.waiting mid) taken.taken (carrier.capacity before) (carrier.fits before) c.in-ok-check-room.ensures role in
+    let role : faulty line c.args.process ≡ false = sym c.is_faulty.ensures.value ∙ c.if-is_faulty.false in
+    let room = room_left line (held c.args.memory.now) c.args.process c.args.pick c.in_ok-message.message (carrier.waiting before) (carrier.waiting mid) taken.taken (carrier.capacity before) (carrier.fits before) c.in_ok-check_room.ensures role in
     (omega (arith, n, line.plan.few), omega (arith, n, room, taken.kept))
 
 pub returns : goal.returns
@@ -50,12 +50,12 @@ returns g c =
     let h = held c.args.memory.now in
     let before = c.args.carrier.now in
     let mid = c.take.new.self in
-    let m = c.in-ok-message.message in
-    let taken = c.in-ok-message.ensures in
+    let m = c.in_ok-message.message in
+    let taken = c.in_ok-message.ensures in
     let reaction = c.receive-reaction.result in
     let n = c.n.ensures ∙ ap (λ (p : Plan). p.n) c.plan-plan.ensures in
-    let role : faulty line c.args.process ≡ false = sym c.is-faulty.ensures.value ∙ c.if-is-faulty.false in
-    let allowed = may_deliver line h c.args.process c.args.pick m (carrier.waiting before) (carrier.waiting mid) taken.taken (carrier.capacity before) c.in-ok-check-process.ensures.first c.in-ok-check-room.ensures in
+    let role : faulty line c.args.process ≡ false = sym c.is_faulty.ensures.value ∙ c.if-is_faulty.false in
+    let allowed = may_deliver line h c.args.process c.args.pick m (carrier.waiting before) (carrier.waiting mid) taken.taken (carrier.capacity before) c.in_ok-check_process.ensures.first c.in_ok-check_room.ensures in
     let sent = c.reply-posted.ensures.sent in
     record {
       turn =

@@ -4,13 +4,13 @@ use Rattle.line.specs.Sent.{passed_on}
 use Rattle.line.proofs.Rows.{sent_join, sent_length, passed_le}
 use Rattle.line.proofs.delivering.reply.Goals as goal
 
-pub send-if-readies-requires : goal.send-if-readies-requires
-send-if-readies-requires g c =
-    let sent = c.send-if-echoes.ensures.sent in
+pub send_if-readies-requires : goal.send_if-readies-requires
+send_if-readies-requires g c =
+    let sent = c.send_if-echoes.ensures.sent in
     (c.requires.0, omega (arith, sent_length _ _ _ _ _ _ sent, sent.kept, passed_le c.args.reaction.echo c.args.n c.args.message.now Echo))
 
-pub overflow-add-result : goal.overflow-add-result
-overflow-add-result g c =
+pub overflow_add-result : goal.overflow_add-result
+overflow_add-result g c =
     let m = c.args.message.now in
     omega (arith, passed_le c.args.reaction.echo c.args.n m Echo, passed_le c.args.reaction.ready c.args.n m Ready)
 
@@ -21,6 +21,6 @@ returns g c =
     let echoes = passed_on c.args.reaction.echo c.args.n m Echo in
     let readies = passed_on c.args.reaction.ready c.args.n m Ready in
     record {
-      sent = sent_join carrier.waiting carrier.capacity carrier.posting _ _ _ echoes readies c.send-if-echoes.ensures.sent c.send-if-readies.ensures.sent;
+      sent = sent_join carrier.waiting carrier.capacity carrier.posting _ _ _ echoes readies c.send_if-echoes.ensures.sent c.send_if-readies.ensures.sent;
       count = omega (arith, length-append echoes readies);
     }

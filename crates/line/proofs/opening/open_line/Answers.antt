@@ -12,20 +12,20 @@ returns g c =
     let h = held c.args.memory.now in
     let ws = g.C.Carrier.waiting c.args.carrier.now in
     let capacity = g.C.Carrier.capacity c.args.carrier.now in
-    let line = c.from-draft.result in
+    let line = c.from_draft.result in
     let plan = c.plan-plan.ensures in
-    let large : enough c.args.draft.plan h ≡ true = ap (λ (p : Plan). enough p h) (sym plan) ∙ sym c.is-enough.ensures ∙ c.if-not-is-enough.false in
-    let idle : ws ≡ [] = c.is-idle.ensures.none c.if-not-is-idle.false in
+    let large : enough c.args.draft.plan h ≡ true = ap (λ (p : Plan). enough p h) (sym plan) ∙ sym c.is_enough.ensures ∙ c.if-not-is_enough.false in
+    let idle : ws ≡ [] = c.is_idle.ensures.none c.if-not-is_idle.false in
     let clear : held c.clear.new.memory ≡ cleared c.args.draft.plan h = c.clear.ensures ∙ ap (λ (p : Plan). cleared p h) plan in
-    let same = sym c.from-draft.ensures.plan in
+    let same = sym c.from_draft.ensures.plan in
     record {
       answer =
           record {
             allowed = cond-true _ _ _ large ∙ cond-true _ _ _ (ap (λ xs. eqb (length xs) 0) idle);
             large = large;
             idle = idle;
-            plan = c.from-draft.ensures.plan;
-            marks = c.from-draft.ensures.marks;
+            plan = c.from_draft.ensures.plan;
+            marks = c.from_draft.ensures.marks;
             memory = clear;
           };
       promise =

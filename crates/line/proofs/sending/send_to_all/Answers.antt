@@ -7,10 +7,10 @@ use Rattle.line.proofs.sending.send_to_all.Goals as goal
 pub loop-addressee-init : goal.loop-addressee-init
 loop-addressee-init g c = sent_none _ _ _ _ _ _ _ _
 
-pub unreachable-requires-in-default-post : goal.unreachable-requires-in-default-post
-unreachable-requires-in-default-post g c =
+pub unreachable-requires-in_default-post : goal.unreachable-requires-in_default-post
+unreachable-requires-in_default-post g c =
     let inv = c.loop-addressee.invariant in
-    omega (arith, sent_length _ _ _ _ _ _ inv, to_length c.args.sender c.args.step c.args.subject c.args.body c.loop-addressee.addressee, inv.kept, c.in-default-post.ensures.posted.full)
+    omega (arith, sent_length _ _ _ _ _ _ inv, to_length c.args.sender c.args.step c.args.subject c.args.body c.loop-addressee.addressee, inv.kept, c.in_default-post.ensures.posted.full)
 
 pub loop-addressee-preserved : goal.loop-addressee-preserved
 loop-addressee-preserved g c =

@@ -5,7 +5,7 @@ use Rattle.reader.proofs.command.read.Goals as goal
 
 pub returns : goal.returns
 returns c =
-    let e = c.read-whole.ensures in
+    let e = c.read_whole.ensures in
     let s = c.args.line.now in
     record {
       value = e;

@@ -20,29 +20,29 @@ by go stop k b₁ b₂ b₃ b₄ b₅ b₆ =
 beyond : (go : Shape → Result Form FormFault) (stop : Result Form FormFault) (k : Form → Shape) (p : List ℕ) (b₅ b₆ : Bool) → false ≡ bytes_eq p (codes "line") → false ≡ bytes_eq p (codes "announce") → false ≡ bytes_eq p (codes "open") → false ≡ bytes_eq p (codes "forge") → b₅ ≡ bytes_eq p (codes "deliver") → b₆ ≡ bytes_eq p (codes "advance") → cond (known commands p) (go (named k p)) stop ≡ by go stop k false false false false b₅ b₆
 beyond go stop k p b₅ b₆ e₁ e₂ e₃ e₄ e₅ e₆ = λ i. by go stop k (sym e₁ i) (sym e₂ i) (sym e₃ i) (sym e₄ i) (sym e₅ i) (sym e₆ i)
 
-pub returns-then-same-bytes-5 : goal.returns-then-same-bytes-5
-returns-then-same-bytes-5 c = λ k.
+pub returns-then-same_bytes-5 : goal.returns-then-same_bytes-5
+returns-then-same_bytes-5 c = λ k.
     let go = ahead c.pull.new.cursor in
     let stop = Err (Unexpected (here c.args.cursor.now)) in
-    c.in-ok-token.ensures.1 (known commands) (named k)
+    c.in_ok-token.ensures.1 (known commands) (named k)
     ∙ (ap (λ q. cond (known commands q) (go (named k q)) stop) (sym c.text-name.ensures)
-    ∙ (beyond go stop k c.text-name.result.now true _ c.if-same-bytes.ensures c.if-same-bytes-2.ensures c.if-same-bytes-3.ensures c.if-same-bytes-4.ensures c.if-same-bytes-5.ensures refl
-    ∙ c.read-deliver.ensures k))
+    ∙ (beyond go stop k c.text-name.result.now true _ c.if-same_bytes.ensures c.if-same_bytes-2.ensures c.if-same_bytes-3.ensures c.if-same_bytes-4.ensures c.if-same_bytes-5.ensures refl
+    ∙ c.read_deliver.ensures k))
 
-pub returns-then-same-bytes-6 : goal.returns-then-same-bytes-6
-returns-then-same-bytes-6 c = λ k.
+pub returns-then-same_bytes-6 : goal.returns-then-same_bytes-6
+returns-then-same_bytes-6 c = λ k.
     let go = ahead c.pull.new.cursor in
     let stop = Err (Unexpected (here c.args.cursor.now)) in
-    c.in-ok-token.ensures.1 (known commands) (named k)
+    c.in_ok-token.ensures.1 (known commands) (named k)
     ∙ (ap (λ q. cond (known commands q) (go (named k q)) stop) (sym c.text-name.ensures)
-    ∙ (beyond go stop k c.text-name.result.now false true c.if-same-bytes.ensures c.if-same-bytes-2.ensures c.if-same-bytes-3.ensures c.if-same-bytes-4.ensures c.if-same-bytes-5.ensures c.if-same-bytes-6.ensures
-    ∙ c.read-advance.ensures k))
+    ∙ (beyond go stop k c.text-name.result.now false true c.if-same_bytes.ensures c.if-same_bytes-2.ensures c.if-same_bytes-3.ensures c.if-same_bytes-4.ensures c.if-same_bytes-5.ensures c.if-same_bytes-6.ensures
+    ∙ c.read_advance.ensures k))
 
-pub returns-else-same-bytes-6 : goal.returns-else-same-bytes-6
-returns-else-same-bytes-6 c = λ k.
+pub returns-else-same_bytes-6 : goal.returns-else-same_bytes-6
+returns-else-same_bytes-6 c = λ k.
     let go = ahead c.pull.new.cursor in
     let stop = Err (Unexpected (here c.args.cursor.now)) in
-    c.in-ok-token.ensures.1 (known commands) (named k)
+    c.in_ok-token.ensures.1 (known commands) (named k)
     ∙ (ap (λ q. cond (known commands q) (go (named k q)) stop) (sym c.text-name.ensures)
-    ∙ (beyond go stop k c.text-name.result.now false false c.if-same-bytes.ensures c.if-same-bytes-2.ensures c.if-same-bytes-3.ensures c.if-same-bytes-4.ensures c.if-same-bytes-5.ensures c.if-same-bytes-6.ensures
+    ∙ (beyond go stop k c.text-name.result.now false false c.if-same_bytes.ensures c.if-same_bytes-2.ensures c.if-same_bytes-3.ensures c.if-same_bytes-4.ensures c.if-same_bytes-5.ensures c.if-same_bytes-6.ensures
     ∙ ap (λ at. Err (Unexpected at)) (sym c.place-place.ensures)))

@@ -8,33 +8,33 @@ loop-seen-init c = none_yet c.args.cursor.now _ c.new-marks.ensures
 
 pub loop-seen-preserved : goal.loop-seen-preserved
 loop-seen-preserved c =
-    one_more c.args.cursor.now c.loop-seen.cursor _ _ c.loop-seen.invariant c.another-mark.new.cursor c.read-number.new.cursor _ _ _ (omega arith)
-    c.if-not-branch.false c.in-ok-another-mark.ensures c.in-ok-mark.ensures c.push.ensures.after
+    one_more c.args.cursor.now c.loop-seen.cursor _ _ c.loop-seen.invariant c.another_mark.new.cursor c.read_number.new.cursor _ _ _ (omega arith)
+    c.if-not-branch.false c.in_ok-another_mark.ensures c.in_ok-mark.ensures c.push.ensures.after
 
-pub returns-in-err-another-mark : goal.returns-in-err-another-mark
-returns-in-err-another-mark c =
-    let p = err_from_is_err_and c.from-residual.result c.from-residual.ensures.1 in
+pub returns-in_err-another_mark : goal.returns-in_err-another_mark
+returns-in_err-another_mark c =
+    let p = err_from_is_err_and c.from_residual.result c.from_residual.ensures.1 in
     rw (p.1, p.2)
-    (mark_fault c.args.cursor.now c.loop-seen.cursor _ _ c.loop-seen.invariant c.another-mark.new.cursor _ (omega arith) c.in-err-another-mark.ensures)
+    (mark_fault c.args.cursor.now c.loop-seen.cursor _ _ c.loop-seen.invariant c.another_mark.new.cursor _ (omega arith) c.in_err-another_mark.ensures)
 
 pub returns-then-not-branch : goal.returns-then-not-branch
 returns-then-not-branch c =
-    no_more c.args.cursor.now c.loop-seen.cursor _ _ c.loop-seen.invariant c.another-mark.new.cursor _ (omega arith) c.if-not-branch.true
-    c.in-ok-another-mark.ensures
+    no_more c.args.cursor.now c.loop-seen.cursor _ _ c.loop-seen.invariant c.another_mark.new.cursor _ (omega arith) c.if-not-branch.true
+    c.in_ok-another_mark.ensures
 
-pub returns-in-err-mark : goal.returns-in-err-mark
-returns-in-err-mark c =
-    let p = err_from_is_err_and c.from-residual-in-err-mark.result c.from-residual-in-err-mark.ensures.1 in
+pub returns-in_err-mark : goal.returns-in_err-mark
+returns-in_err-mark c =
+    let p = err_from_is_err_and c.from_residual-in_err-mark.result c.from_residual-in_err-mark.ensures.1 in
     rw (p.1, p.2)
-    (number_fault c.args.cursor.now c.loop-seen.cursor _ _ c.loop-seen.invariant c.another-mark.new.cursor c.read-number.new.cursor _ _ (omega arith)
-    c.if-not-branch.false c.in-ok-another-mark.ensures c.in-err-mark.ensures)
+    (number_fault c.args.cursor.now c.loop-seen.cursor _ _ c.loop-seen.invariant c.another_mark.new.cursor c.read_number.new.cursor _ _ (omega arith)
+    c.if-not-branch.false c.in_ok-another_mark.ensures c.in_err-mark.ensures)
 
-pub returns-in-err-expect : goal.returns-in-err-expect
-returns-in-err-expect c =
-    let p = err_from_is_err_and c.from-residual-in-err-expect.result c.from-residual-in-err-expect.ensures.1 in
+pub returns-in_err-expect : goal.returns-in_err-expect
+returns-in_err-expect c =
+    let p = err_from_is_err_and c.from_residual-in_err-expect.result c.from_residual-in_err-expect.ensures.1 in
     rw (p.1, p.2)
-    (last_fault c.args.cursor.now c.loop-seen.cursor _ _ c.loop-seen.invariant c.expect.new.cursor _ (omega arith) c.in-err-expect.ensures)
+    (last_fault c.args.cursor.now c.loop-seen.cursor _ _ c.loop-seen.invariant c.expect.new.cursor _ (omega arith) c.in_err-expect.ensures)
 
 pub returns : goal.returns
 returns c =
-    last_closed c.args.cursor.now c.loop-seen.cursor _ _ c.loop-seen.invariant c.expect.new.cursor (omega arith) c.in-ok-expect.ensures
+    last_closed c.args.cursor.now c.loop-seen.cursor _ _ c.loop-seen.invariant c.expect.new.cursor (omega arith) c.in_ok-expect.ensures

@@ -10,4 +10,4 @@ pub returns : goal.returns
 unfolding fresh
 returns c =
     let basket = c.new-basket.ensures in
-    IfOk-weaker c.rehearse-lines.result _ _ (λ t e. e ∙ from_start (shown c.args.text) c.args.input.now _ _ _ (basket.room ∙ length-replicate 400 c.in-Ok.message) refl basket.none) c.rehearse-lines.ensures
+    IfOk-weaker c.rehearse_lines.result _ _ (λ t e. e ∙ from_start (shown c.args.text) c.args.input.now _ _ _ (basket.room ∙ length-replicate 400 c.in-Ok.message) refl basket.none) c.rehearse_lines.ensures

@@ -12,11 +12,11 @@ pub returns-in-Ok : goal.returns-in-Ok
 returns-in-Ok c =
     let d = desk c.args.line.now (held c.args.memory.now) (waiting_in c.args.basket.now) in
     let reply = reply_is (places_of c.args.basket.now) c.args.number d c.args.bytes.now _ c.in-Ok.ensures in
-    let step = c.act-on.ensures.step in
+    let step = c.act_on.ensures.step in
     record {
-      text = IfOk-weaker c.write-to.result _ _ (λ t e. e ∙ ap (λ (v : List ℕ). shown c.args.text ++ v) (ap (λ (a : Done). said_text a.said) step ∙ ap (λ (r : Reply). r.text) reply)) c.write-to.ensures;
+      text = IfOk-weaker c.write_to.result _ _ (λ t e. e ∙ ap (λ (v : List ℕ). shown c.args.text ++ v) (ap (λ (a : Done). said_text a.said) step ∙ ap (λ (r : Reply). r.text) reply)) c.write_to.ensures;
       after = ap (λ (a : Done). a.desk) step ∙ ap (λ (r : Reply). r.desk) reply;
-      kept = c.act-on.ensures.kept;
+      kept = c.act_on.ensures.kept;
     }
 
 pub returns-in-Err : goal.returns-in-Err
@@ -24,7 +24,7 @@ returns-in-Err c =
     let d = desk c.args.line.now (held c.args.memory.now) (waiting_in c.args.basket.now) in
     let reply = reply_is (places_of c.args.basket.now) c.args.number d c.args.bytes.now _ c.in-Err.ensures in
     record {
-      text = IfOk-weaker c.write-to-in-Err.result _ _ (λ t e. e ∙ ap (λ (v : List ℕ). shown c.args.text ++ v) (ap (λ (r : Reply). r.text) reply)) c.write-to-in-Err.ensures;
+      text = IfOk-weaker c.write_to-in-Err.result _ _ (λ t e. e ∙ ap (λ (v : List ℕ). shown c.args.text ++ v) (ap (λ (r : Reply). r.text) reply)) c.write_to-in-Err.ensures;
       after = ap (λ (r : Reply). r.desk) reply;
       kept = refl;
     }

@@ -13,17 +13,17 @@ loop-at-preserved c =
     let at = c.loop-at.at in
     let n = c.loop-at.number in
     let d = desk c.loop-at.line (held c.loop-at.memory) (waiting_in c.loop-at.basket) in
-    let line = take (at + c.line-length.result - at) (drop at s) in
+    let line = take (at + c.line_length.result - at) (drop at s) in
     let same = inv.2 in
-    let made = c.in-ok-rehearse-line.ensures in (
+    let made = c.in_ok-rehearse_line.ensures in (
       omega arith,
       omega arith,
       made.kept ∙ same,
-      answered (places_of c.args.basket.now) d (desk c.rehearse-line.new.line (held c.rehearse-line.new.memory) (waiting_in c.rehearse-line.new.basket)) (shown c.loop-at.text) (shown c.in-ok-rehearse-line.field-0) (shown c.in-ok-text.text) _ s _ c.line-length.result n at
-          inv.3 (omega arith) c.line-length.ensures.value refl
+      answered (places_of c.args.basket.now) d (desk c.rehearse_line.new.line (held c.rehearse_line.new.memory) (waiting_in c.rehearse_line.new.basket)) (shown c.loop-at.text) (shown c.in_ok-rehearse_line.field-0) (shown c.in_ok-text.text) _ s _ c.line_length.result n at
+          inv.3 (omega arith) c.line_length.ensures.value refl
           (made.text ∙ ap (λ (p : ℕ). shown c.loop-at.text ++ (replies p n d line).text) same)
           (made.after ∙ ap (λ (p : ℕ). (replies p n d line).desk) same)
-          c.in-ok-text.ensures,
+          c.in_ok-text.ensures,
     )
 
 pub returns : goal.returns

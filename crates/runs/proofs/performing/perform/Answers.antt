@@ -37,13 +37,13 @@ returns-in-Err g c =
       kept = done.kept;
     }
 
-pub returns-in-Ok-open-case : goal.returns-in-Ok-open-case
-returns-in-Ok-open-case g c =
-    let done = c.in-Ok-open-case.ensures in
+pub returns-in-Ok-open_case : goal.returns-in-Ok-open_case
+returns-in-Ok-open_case g c =
+    let done = c.in-Ok-open_case.ensures in
     record {
       event =
           record {
-            event = opened c.in-Open.process c.in-Open.case c.in-Open.vote c.in-Ok-open-case.posted;
+            event = opened c.in-Open.process c.in-Open.case c.in-Open.vote c.in-Ok-open_case.posted;
             told = ap (asked g.row.I-Item.packed) (sym c.in-Open.is);
             answer = refl;
             happens = done.turn;
@@ -52,13 +52,13 @@ returns-in-Ok-open-case g c =
       kept = done.kept;
     }
 
-pub returns-in-Err-open-case : goal.returns-in-Err-open-case
-returns-in-Err-open-case g c =
-    let done = c.in-Err-open-case.ensures in
+pub returns-in-Err-open_case : goal.returns-in-Err-open_case
+returns-in-Err-open_case g c =
+    let done = c.in-Err-open_case.ensures in
     record {
       event =
           record {
-            event = refused (rules.Open c.in-Open.process c.in-Open.case c.in-Open.vote) c.in-Err-open-case.refusal;
+            event = refused (rules.Open c.in-Open.process c.in-Open.case c.in-Open.vote) c.in-Err-open_case.refusal;
             told = ap (asked g.row.I-Item.packed) (sym c.in-Open.is);
             answer = refl;
             happens = done.turn;

@@ -7,7 +7,7 @@ use Rattle.script.proofs.fault.put_refusal.Goals as goal
 
 pub returns : goal.returns
 returns c =
-    let words = c.in-ok-put.ensures in
-    let number = c.in-ok-put-number.ensures in
+    let words = c.in_ok-put.ensures in
+    let number = c.in_ok-put_number.ensures in
     let all = extended_joined (shown c.args.text) (codes "(refused " ∷ decimal (refusal_number c.args.refusal) ∷ codes ")" ∷ []) in
     IfOk-weaker c.put-2.result _ _ (λ t e. cc) c.put-2.ensures

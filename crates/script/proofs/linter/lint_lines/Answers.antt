@@ -7,8 +7,8 @@ pub loop-at-preserved : goal.loop-at-preserved
 loop-at-preserved c = (
   omega arith,
   omega arith,
-  answered (shown c.loop-at.text) (shown c.in-ok-lint-line.field-0) (shown c.in-ok-text.text) _ c.args.input.now _ c.line-length.result c.loop-at.number c.loop-at.at
-      c.loop-at.invariant.2 (omega arith) c.line-length.ensures.value refl c.in-ok-lint-line.ensures c.in-ok-text.ensures,
+  answered (shown c.loop-at.text) (shown c.in_ok-lint_line.field-0) (shown c.in_ok-text.text) _ c.args.input.now _ c.line_length.result c.loop-at.number c.loop-at.at
+      c.loop-at.invariant.2 (omega arith) c.line_length.ensures.value refl c.in_ok-lint_line.ensures c.in_ok-text.ensures,
 )
 
 pub returns : goal.returns

@@ -22,7 +22,7 @@ pub returns : goal.returns
 returns c =
     let process = c.args.process in
     let ms = listed c.args.self.now.row in
-    let number = ap (λ (k : ℕ). c.args.pick % k) c.count-for-waiting.ensures in
+    let number = ap (λ (k : ℕ). c.args.pick % k) c.count_for-waiting.ensures in
     let answer = c.take.ensures.answer ∙ ap (λ (k : ℕ). answer_at process k ms) number in
     let left = c.take.ensures.left ∙ ap (λ (k : ℕ). left_at process k ms) number in
     record {

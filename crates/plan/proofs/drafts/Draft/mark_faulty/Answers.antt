@@ -8,12 +8,12 @@ use Rattle.plan.specs.Marks.{marked, mark_answer}
 use Rattle.plan.proofs.Marked.{set_inside, set_ones, set_marked}
 use Rattle.plan.proofs.drafts.Draft.mark_faulty.Goals as goal
 
-pub invariant-of-self : goal.invariant-of-self
-invariant-of-self c =
+pub invariant_of-self : goal.invariant_of-self
+invariant_of-self c =
     let draft = c.args.self.now in
     let i = c.args.process in
     let e = sym (one_shl i 16 (omega (arith, draft.plan.few))) in
-    let clear = sym c.is-faulty.ensures.value ∙ c.if-is-faulty.false in (
+    let clear = sym c.is_faulty.ensures.value ∙ c.if-is_faulty.false in (
       subst (λ (x : ℕ). ones (bit_or draft.marks x) ≤ draft.plan.t) e (omega (arith, set_ones draft.marks i clear)),
       (subst (λ (x : ℕ). bit_or draft.marks x < 2 ^ draft.plan.n) e (set_inside _ draft.marks i draft.inside (omega arith)), tt),
     )
@@ -24,7 +24,7 @@ returns c =
     let m = draft.marks in
     let i = c.args.process in
     let e = one_shl i 16 (omega (arith, draft.plan.few)) in
-    let clear = sym c.is-faulty.ensures.value ∙ c.if-is-faulty.false in
+    let clear = sym c.is_faulty.ensures.value ∙ c.if-is_faulty.false in
     let answer : Ok tt ≡ mark_answer draft.plan m i =
     sym
     (cond-false (leb draft.plan.n i) _ _ (lt-leb draft.plan.n i (omega arith))

@@ -6,8 +6,8 @@ use Rattle.plan.proofs.plans.Plan.new.Goals as goal
 pub returns-then-n-lt1 : goal.returns-then-n-lt1
 returns-then-n-lt1 c = sym (planned_not _ _ _ _ _ (grind (arith, nat_tests)))
 
-pub returns-then-serials-gt-MOST-SERIALS : goal.returns-then-serials-gt-MOST-SERIALS
-returns-then-serials-gt-MOST-SERIALS c = sym (planned_not _ _ _ _ _ (grind (arith, nat_tests)))
+pub returns-then-serials-gt-MOST_SERIALS : goal.returns-then-serials-gt-MOST_SERIALS
+returns-then-serials-gt-MOST_SERIALS c = sym (planned_not _ _ _ _ _ (grind (arith, nat_tests)))
 
 pub returns : goal.returns
 returns c = sym (planned_of _)

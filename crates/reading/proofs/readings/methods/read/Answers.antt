@@ -8,34 +8,34 @@ use Rattle.reading.specs.declared.readings.Reading.TheVariants.{Nothing, Unreada
 use Rattle.reading.proofs.Finding.{answered, alike}
 use Rattle.reading.proofs.readings.methods.read.Goals as goal
 
-pub returns-in-err-at : goal.returns-in-err-at
-returns-in-err-at g c =
+pub returns-in_err-at : goal.returns-in_err-at
+returns-in_err-at g c =
     let line = c.args.line.now in
     let h = held c.args.memory.now in
     let unpacked = g.row.I-Item.unpacked in
-    let p = err_from_is_err_and c.from-residual.result c.from-residual.ensures.1 in
-    let value : c.from-residual.result ≡ answer unpacked line h c.args.process c.args.subject =
+    let p = err_from_is_err_and c.from_residual.result c.from_residual.ensures.1 in
+    let value : c.from_residual.result ≡ answer unpacked line h c.args.process c.args.subject =
     p.1 ∙ ap Err p.2
-    ∙ ap (λ (w : Option Refusal). unless_refused w (reading_of unpacked (body_at line h c.args.process c.args.subject))) (sym c.in-err-at.ensures) in
+    ∙ ap (λ (w : Option Refusal). unless_refused w (reading_of unpacked (body_at line h c.args.process c.args.subject))) (sym c.in_err-at.ensures) in
     record { value = value; alike = alike line h c.args.process c.args.subject unpacked _ value }
 
-pub returns-in-default : goal.returns-in-default
-returns-in-default g c =
+pub returns-in_default : goal.returns-in_default
+returns-in_default g c =
     let line = c.args.line.now in
     let h = held c.args.memory.now in
     let unpacked = g.row.I-Item.unpacked in
     let value : Ok Nothing ≡ answer unpacked line h c.args.process c.args.subject =
-    answered line h c.args.process c.args.subject unpacked c.in-ok-at.at None Nothing c.in-ok-at.ensures (c.in-default.ensures ∙ ap accepted_body c.stage.ensures) refl in
+    answered line h c.args.process c.args.subject unpacked c.in_ok-at.at None Nothing c.in_ok-at.ensures (c.in_default.ensures ∙ ap accepted_body c.stage.ensures) refl in
     record { value = value; alike = alike line h c.args.process c.args.subject unpacked _ value }
 
-pub returns-in-default-unpack : goal.returns-in-default-unpack
-returns-in-default-unpack g c =
+pub returns-in_default-unpack : goal.returns-in_default-unpack
+returns-in_default-unpack g c =
     let line = c.args.line.now in
     let h = held c.args.memory.now in
     let unpacked = g.row.I-Item.unpacked in
     let value : Ok Unreadable ≡ answer unpacked line h c.args.process c.args.subject =
-    answered line h c.args.process c.args.subject unpacked c.in-ok-at.at (Some c.in-Some.body) Unreadable c.in-ok-at.ensures (c.in-Some.ensures ∙ ap accepted_body c.stage.ensures)
-    (ap value_in c.in-default-unpack.ensures) in
+    answered line h c.args.process c.args.subject unpacked c.in_ok-at.at (Some c.in-Some.body) Unreadable c.in_ok-at.ensures (c.in-Some.ensures ∙ ap accepted_body c.stage.ensures)
+    (ap value_in c.in_default-unpack.ensures) in
     record { value = value; alike = alike line h c.args.process c.args.subject unpacked _ value }
 
 pub returns : goal.returns
@@ -44,6 +44,6 @@ returns g c =
     let h = held c.args.memory.now in
     let unpacked = g.row.I-Item.unpacked in
     let value : Ok (Value c.in-Some-unpack.value) ≡ answer unpacked line h c.args.process c.args.subject =
-    answered line h c.args.process c.args.subject unpacked c.in-ok-at.at (Some c.in-Some.body) (Value c.in-Some-unpack.value) c.in-ok-at.ensures (c.in-Some.ensures ∙ ap accepted_body c.stage.ensures)
+    answered line h c.args.process c.args.subject unpacked c.in_ok-at.at (Some c.in-Some.body) (Value c.in-Some-unpack.value) c.in_ok-at.ensures (c.in-Some.ensures ∙ ap accepted_body c.stage.ensures)
     (ap value_in c.in-Some-unpack.ensures) in
     record { value = value; alike = alike line h c.args.process c.args.subject unpacked _ value }

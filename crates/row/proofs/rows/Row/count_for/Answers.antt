@@ -10,8 +10,8 @@ use Rattle.row.proofs.rows.Row.count_for.Goals as goal
 pub loop-at-init : goal.loop-at-init
 loop-at-init c = sym (count_none (addressed c.args.process))
 
-pub overflow-add-count : goal.overflow-add-count
-overflow-add-count c =
+pub overflow_add-count : goal.overflow_add-count
+overflow_add-count c =
     let xs = take c.loop-at.at c.args.self.now.places.now in
     omega (arith, count_le_length (addressed c.args.process) xs, length-take c.loop-at.at c.args.self.now.places.now)
 

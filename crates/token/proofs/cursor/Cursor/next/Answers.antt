@@ -4,14 +4,14 @@ use Rattle.token.specs.Tokens.{pieces}
 use Rattle.token.proofs.Scans.{scan_end, scan_fault, scan_some, onward_none, onward_some}
 use Rattle.token.proofs.cursor.Cursor.next.Goals as goal
 
-pub returns-then-is-empty : goal.returns-then-is-empty
-returns-then-is-empty c =
-    record { value = sym (scan_end c.args.self.now (sym c.if-is-empty.ensures)); kind = tt; place = onward_none _; tokens = refl }
+pub returns-then-is_empty : goal.returns-then-is_empty
+returns-then-is_empty c =
+    record { value = sym (scan_end c.args.self.now (sym c.if-is_empty.ensures)); kind = tt; place = onward_none _; tokens = refl }
 
-pub returns-in-default : goal.returns-in-default
-returns-in-default c =
+pub returns-in_default : goal.returns-in_default
+returns-in_default c =
     record {
-      value = ap (λ p. Err (record { place = p })) c.place.ensures ∙ sym (scan_fault c.args.self.now (sym c.if-is-empty.ensures) c.in-default.ensures);
+      value = ap (λ p. Err (record { place = p })) c.place.ensures ∙ sym (scan_fault c.args.self.now (sym c.if-is_empty.ensures) c.in_default.ensures);
       kind = tt;
       place = onward_none _;
       tokens = refl;

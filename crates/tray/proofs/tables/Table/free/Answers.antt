@@ -2,7 +2,7 @@ use Rattle.std.proofs.Common.{◌≡◌, ℕ, not, length, get_or, take, refl, a
 use Rattle.tray.specs.Tables.{messages}
 use Rattle.tray.proofs.Kept.{length_more, length_free, length_used}
 use Rattle.tray.proofs.tables.Table.free.Goals as goal
-use Rattle.tray.proofs.tables.Table.free.Goals.{then-is-none, else-is-none}
+use Rattle.tray.proofs.tables.Table.free.Goals.{then-is_none, else-is_none}
 
 pub loop-at-init : goal.loop-at-init
 unfolding messages
@@ -15,9 +15,9 @@ loop-at-preserved c =
     let d = c.index-self-at.result in
     let place = get_or table.places at d in
     let more = length_more table.places at d (omega arith) in
-    elim c.if-is-none.branch [
-      | then-is-none w ↦ omega (arith, more, w.free-is, length_free place (c.is-none.ensures ∙ ap not w.if-is-none.true))
-      | else-is-none w ↦ omega (arith, more, w.free-is, length_used place (c.is-none.ensures ∙ ap not w.if-is-none.false))
+    elim c.if-is_none.branch [
+      | then-is_none w ↦ omega (arith, more, w.free-is, length_free place (c.is_none.ensures ∙ ap not w.if-is_none.true))
+      | else-is_none w ↦ omega (arith, more, w.free-is, length_used place (c.is_none.ensures ∙ ap not w.if-is_none.false))
     ]
 
 pub returns : goal.returns

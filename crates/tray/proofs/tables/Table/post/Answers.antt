@@ -7,10 +7,10 @@ pub loop-at-init : goal.loop-at-init
 unfolding messages
 loop-at-init c = (refl, refl)
 
-pub returns-then-is-none : goal.returns-then-is-none
-returns-then-is-none c =
+pub returns-then-is_none : goal.returns-then-is_none
+returns-then-is_none c =
     added c.args.self.now.places c.loop-at.self.places c.loop-at.invariant.0 c.loop-at.at c.loop-at-test.true (omega arith)
-    c.index-self-at.result c.args.message (c.is-none.ensures ∙ ap not c.if-is-none.true)
+    c.index-self-at.result c.args.message (c.is_none.ensures ∙ ap not c.if-is_none.true)
 
 pub loop-at-preserved : goal.loop-at-preserved
 loop-at-preserved c =
@@ -18,7 +18,7 @@ loop-at-preserved c =
     let at = c.loop-at.at in
     let d = c.index-self-at.result in
     let more = length_more table.places at d (omega arith) in
-    (c.loop-at.invariant.0, omega (arith, more, c.loop-at.invariant.1, length_used (get_or table.places at d) (c.is-none.ensures ∙ ap not c.if-is-none.false)))
+    (c.loop-at.invariant.0, omega (arith, more, c.loop-at.invariant.1, length_used (get_or table.places at d) (c.is_none.ensures ∙ ap not c.if-is_none.false)))
 
 pub returns : goal.returns
 returns c =

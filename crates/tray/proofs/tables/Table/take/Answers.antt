@@ -5,7 +5,7 @@ use Rattle.carrier.specs.Waiting.{addressed, waiting_for}
 use Rattle.tray.specs.Tables.{is_for, messages, kept}
 use Rattle.tray.proofs.Kept.{count_more, count_for, taken_out}
 use Rattle.tray.proofs.tables.Table.take.Goals as goal
-use Rattle.tray.proofs.tables.Table.take.Goals.{in-Some+else-addressee-process, in-default}
+use Rattle.tray.proofs.tables.Table.take.Goals.{in-Some+else-addressee-process, in_default}
 
 pub loop-at-init : goal.loop-at-init
 unfolding messages
@@ -26,7 +26,7 @@ loop-at-preserved c =
     elim c.match-place.branch [
       | in-Some+else-addressee-process w ↦
           ap (is_for process) w.in-Some.is ∙ ne_eqb _ process (λ e. w.if-addressee-process.false (w.addressee.ensures ∙ e))
-      | in-default w ↦ ap (is_for process) w.in-default.is
+      | in_default w ↦ ap (is_for process) w.in_default.is
     ] in
     let here = count_for process place ∙ ap (λ (b : Bool). cond b 1 0) none in
     (c.loop-at.invariant.0, omega (arith, more, here, c.loop-at.invariant.1))
