@@ -49,8 +49,8 @@ pub trait Carrier {
 
 // Whether no message waits, for whichever process.
 pub fn is_idle<C: Carrier>(carrier: &C) -> bool
-    ensures value { result ≡ (length (waiting carrier.now) == 0) }
-    ensures none { result ≡ true → waiting carrier.now ≡ [] }
+    ensures value { result ≡ (length (C.waiting carrier.now) == 0) }
+    ensures none { result ≡ true → C.waiting carrier.now ≡ [] }
 {
     for process in 0..PROCESSES {
         if carrier.waiting_for(process) > 0 {

@@ -13,10 +13,11 @@ invariant_of-self c =
     let draft = c.args.self.now in
     let i = c.args.process in
     let e = sym (one_shl i 16 (omega (arith, draft.plan.few))) in
-    let clear = sym c.is_faulty.ensures.value ∙ c.if-is_faulty.false in (
-      subst (λ (x : ℕ). ones (bit_or draft.marks x) ≤ draft.plan.t) e (omega (arith, set_ones draft.marks i clear)),
-      (subst (λ (x : ℕ). bit_or draft.marks x < 2 ^ draft.plan.n) e (set_inside _ draft.marks i draft.inside (omega arith)), tt),
-    )
+    let clear = sym c.is_faulty.ensures.value ∙ c.if-is_faulty.false in
+    record {
+      few = subst (λ (x : ℕ). ones (bit_or draft.marks x) ≤ draft.plan.t) e (omega (arith, set_ones draft.marks i clear));
+      inside = subst (λ (x : ℕ). bit_or draft.marks x < 2 ^ draft.plan.n) e (set_inside _ draft.marks i draft.inside (omega arith));
+    }
 
 pub returns : goal.returns
 returns c =
