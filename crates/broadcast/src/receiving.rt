@@ -35,9 +35,9 @@ pub fn receive(plan: &Plan, memory: &mut Memory, process: u64, message: &Message
 
 // Hears an echo or a ready in its place, and counts those of the same body.
 fn listen(plan: &Plan, memory: &mut Memory, place: Place, message: &Message) -> u8
-    requires sender_lt_n { message.now.sender < plan.now.n }
-    requires n_in_bounds { place.echoes + plan.now.n ≤ length memory.old.bodies.now }
-    requires n_in_bounds_2 { place.readies + plan.now.n ≤ length memory.old.bodies.now }
+    requires known { message.now.sender < plan.now.n }
+    requires echoes { place.echoes + plan.now.n ≤ length memory.old.bodies.now }
+    requires readies { place.readies + plan.now.n ≤ length memory.old.bodies.now }
     ensures held { held memory.new ≡ with_bodies (listened place message.now message.now.step memory.old.bodies.now) (held memory.old) }
     ensures count { result ≡ agreeing plan.now.n place message.now message.now.step memory.new.bodies.now }
 {
@@ -50,8 +50,8 @@ fn listen(plan: &Plan, memory: &mut Memory, place: Place, message: &Message) -> 
 
 // Hears a message in the row of places that begins at `first`, and counts the places that hold its body.
 fn hear(bodies: &mut [Option<u64>], first: usize, plan: &Plan, message: &Message) -> u8
-    requires sender_lt_n { message.now.sender < plan.now.n }
-    requires n_in_bounds { first + plan.now.n ≤ length bodies.old }
+    requires known { message.now.sender < plan.now.n }
+    requires room { first + plan.now.n ≤ length bodies.old }
     ensures heard { bodies.new ≡ hear (first + message.now.sender) message.now.body bodies.old }
     ensures count { result ≡ saying plan.now.n first message.now.body bodies.new }
 {

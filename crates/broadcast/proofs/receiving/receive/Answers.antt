@@ -20,7 +20,7 @@ listen-count-requires c =
     let h = held c.args.memory.now in
     let known = c.in-Some.ensures in
     let a = admitted c.args.plan.now c.args.process m h c.in-Some.place _ _ (omega arith) c.is_enough.ensures c.if-not-is_enough.false c.subject.ensures known.value known.laid in
-    (omega arith, a.echoes, a.readies)
+    record { known = omega arith; echoes = a.echoes; readies = a.readies }
 
 pub turn_stage-requires : goal.turn_stage-requires
 turn_stage-requires c =
