@@ -2,7 +2,7 @@
 //! to standard output.
 #![tactic(auto)]
 
-mod cases;
+mod claims;
 mod story;
 mod turns;
 mod watches;

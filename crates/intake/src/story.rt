@@ -1,5 +1,5 @@
 // Who does what, and in which order.
-use crate::cases::settle;
+use crate::claims::settle;
 use crate::turns::{Choice, announce_record, forge_message, read_record, serve};
 use crate::watches::Watch;
 use carrier::Carrier;

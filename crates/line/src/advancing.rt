@@ -98,8 +98,8 @@ fn send_next<C: Carrier>(
     round: u64,
     ballot: Ballot,
 ) -> u64
-    requires process_bound { process < 16 }
-    requires carrier_value { spacious line.now round (C.Carrier.capacity carrier.old) (C.Carrier.waiting carrier.old) ≡ true }
+    requires process { process < 16 }
+    requires room { spacious line.now round (C.Carrier.capacity carrier.old) (C.Carrier.waiting carrier.old) ≡ true }
     ensures sent { Sent C.Carrier.waiting C.Carrier.capacity C.Carrier.posting carrier.old (ballots line.now process case round ballot) carrier.new }
     ensures count { result ≡ length (ballots line.now process case round ballot) }
 {

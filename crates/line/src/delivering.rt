@@ -59,8 +59,8 @@ fn check_room<C: Carrier>(line: &Line, carrier: &C, process: u64) -> Result<(), 
 
 // Sends what the reaction says, and answers how many messages these are.
 fn reply<C: Carrier>(carrier: &mut C, n: u64, message: &Message, reaction: Reaction) -> u64
-    requires n_bound { n ≤ 16 }
-    requires n_len_bound { length (C.Carrier.waiting carrier.old) + 2 * n ≤ C.Carrier.capacity carrier.old }
+    requires few { n ≤ 16 }
+    requires room { length (C.Carrier.waiting carrier.old) + 2 * n ≤ C.Carrier.capacity carrier.old }
     ensures sent { Sent C.Carrier.waiting C.Carrier.capacity C.Carrier.posting carrier.old (replies n message.now reaction) carrier.new }
     ensures count { result ≡ length (replies n message.now reaction) }
 {

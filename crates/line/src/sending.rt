@@ -15,9 +15,9 @@ pub(crate) fn send_to_all<C: Carrier>(
     subject: Subject,
     body: u64,
 ) -> u64
-    requires n_bound { n ≤ 16 }
-    requires sender_bound { sender < 16 }
-    requires n_len_bound { length (C.Carrier.waiting carrier.old) + n ≤ C.Carrier.capacity carrier.old }
+    requires few { n ≤ 16 }
+    requires sender { sender < 16 }
+    requires room { length (C.Carrier.waiting carrier.old) + n ≤ C.Carrier.capacity carrier.old }
     ensures sent { Sent C.Carrier.waiting C.Carrier.capacity C.Carrier.posting carrier.old (to_all n sender step subject body) carrier.new }
     ensures count { result ≡ length (to_all n sender step subject body) }
 {
@@ -40,8 +40,8 @@ pub(crate) fn send_if<C: Carrier>(
     message: &Message,
     step: Step,
 ) -> u64
-    requires n_bound { n ≤ 16 }
-    requires n_len_bound { length (C.Carrier.waiting carrier.old) + n ≤ C.Carrier.capacity carrier.old }
+    requires few { n ≤ 16 }
+    requires room { length (C.Carrier.waiting carrier.old) + n ≤ C.Carrier.capacity carrier.old }
     ensures sent { Sent C.Carrier.waiting C.Carrier.capacity C.Carrier.posting carrier.old (passed_on due n message.now step) carrier.new }
     ensures count { result ≡ length (passed_on due n message.now step) }
 {

@@ -33,7 +33,7 @@ use Rattle.rules.proofs.Cases.{CaseShown, Tale, same_tale, carried, all_carried,
 use Rattle.rules.proofs.Ballots.{same_ballots, moved_here, moved_other, moved_large, said_other, said_round, opened_elsewhere, advanced_elsewhere}
 use Rattle.rules.proofs.Shows.{Shows, items_on, bodies_on, stranger, OpenAllowed, open_allowed, AdvanceAllowed, advance_allowed, no_stranger}
 use Rattle.rules.proofs.Deliveries as deliveries
-use Rattle.rules.proofs.Follows.{Follow, joined}
+use Rattle.rules.proofs.Follows.{Follow, joined_all}
 
 module _ (line : Line) (capacity : ℕ) (coin : Coin) (es : List Event) (h : Held) (ws : List Message) (st : State) (shows : Shows line coin es h ws st) where
   -- a ballot is said in a case of process i, or only its record changes
@@ -74,7 +74,7 @@ module _ (line : Line) (capacity : ℕ) (coin : Coin) (es : List Event) (h : Hel
     by_opened =
         let inside = and_from _ _ (lt-ltb _ _ open_may.process) (and_from _ _ (lt-ltb _ _ open_may.case) (and_from _ _ refl (le-leb 1 (3 * line.plan.phases) (omega (arith, line.plan.first))))) in (
           open_state,
-          λ run. machine.after run (machine.tell (Ballot i c 1) v left (open_may.process, open_may.correct) open_none (joined line capacity coin es h ws st shows (to_all line.plan.n i Initial (Ballot i c 1) v) left d.carrier)),
+          λ run. machine.after run (machine.tell (Ballot i c 1) v left (open_may.process, open_may.correct) open_none (joined_all line capacity coin es h ws st shows line.plan.n i Initial (Ballot i c 1) v left d.carrier)),
           subst (λ x. Shows line coin (opened i c v posted ∷ es) x left open_state) (sym d.memory) (record {
             mirrors = record {
               large = moved_large line h shows.mirrors.large i c 1 _ open_may.process open_may.case;
@@ -189,7 +189,7 @@ module _ (line : Line) (capacity : ℕ) (coin : Coin) (es : List Event) (h : Hel
         subst₂ (λ (k b : ℕ). Same left (to_all n i Initial (Ballot i c k) b ++ ws)) subject_is body_is (subst (λ ms. Same left (ms ++ ws)) (cond-true (ltb r (3 * line.plan.phases)) _ [] early) a.done.carrier) in
         let inside = and_from _ _ (lt-ltb i n may_advance_lem.process) (and_from _ _ (lt-ltb c line.plan.cases may_advance_lem.case) (and_from _ _ (le-leb 1 (suc (suc q)) (omega arith)) (le-leb (suc (suc q)) (3 * line.plan.phases) (omega (arith, before, r_is))))) in (
           ballot_state,
-          λ run. machine.after run (machine.tell (Ballot i c (suc (suc q))) body left (may_advance_lem.process, may_advance_lem.correct) unsaid_next (joined line capacity coin es h ws st shows (to_all n i Initial (Ballot i c (suc (suc q))) body) left end)),
+          λ run. machine.after run (machine.tell (Ballot i c (suc (suc q))) body left (may_advance_lem.process, may_advance_lem.correct) unsaid_next (joined_all line capacity coin es h ws st shows n i Initial (Ballot i c (suc (suc q))) body left end)),
           subst (λ y. Shows line coin onward y left ballot_state) (sym a.done.memory) (record {
             mirrors = record {
               large = moved_large line h shows.mirrors.large i c (r + 1) _ may_advance_lem.process may_advance_lem.case;

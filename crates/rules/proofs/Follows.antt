@@ -2,7 +2,10 @@
 use Rattle.std.proofs.Common.{◌≡◌, ℕ, ◌+◌, ◌-◌, ◌<◌, List, ◌∷◌, ◌++◌, get_or, Option, ap, arith}
 use Rattle.protocol.specs.Bags.{Same}
 use Rattle.protocol.specs.declared.messages.Message.{Message}
+use Rattle.protocol.specs.declared.messages.Step.{Step}
+use Rattle.protocol.specs.declared.messages.Subject.{Subject}
 use Rattle.protocol.specs.declared.messages.Subject.TheVariants.{Ballot}
+use Rattle.protocol.specs.Sending.{to_all}
 use Rattle.protocol.proofs.Bags.{count_append}
 use Rattle.protocol.specs.declared.votes.Side.{Side}
 use Rattle.plan.specs.declared.drafts.Line.{Line}
@@ -18,6 +21,7 @@ use Rattle.rules.specs.Runs.{Event, Coin, Opening, Advancing, decision_of}
 use Rattle.rules.proofs.Records.{world_of}
 use Rattle.rules.proofs.Cases.{CasesShown, untold, all_carried}
 use Rattle.rules.proofs.Shows.{Shows}
+use Rattle.rules.proofs.Sending.{to_all_alike, in_front}
 use Rattle.rules.proofs.Deliveries as deliveries
 
 -- the machine can follow to a state that shows where the run came to
@@ -26,8 +30,12 @@ Follow line coin st es h ws = (next : State) × (machine.Run (world_of line) st 
 
 module _ (line : Line) (capacity : ℕ) (coin : Coin) (es : List Event) (h : Held) (ws : List Message) (st : State) (shows : Shows line coin es h ws st) where
   -- what is sent joins what waits
-  pub joined : (sent left : List Message) → Same left (sent ++ ws) → Same left (sent ++ st.waiting)
+  joined : (sent left : List Message) → Same left (sent ++ ws) → Same left (sent ++ st.waiting)
   joined sent left same p = omega (arith, same p, count_append p sent ws, count_append p sent st.waiting, shows.mirrors.waits p)
+
+  -- and the machine may send it in its own order
+  pub joined_all : (n i : ℕ) (step : Step) (s : Subject) (b : ℕ) (left : List Message) → Same left (to_all n i step s b ++ ws) → Same left (machine.to_all n i step s b ++ st.waiting)
+  joined_all n i step s b left same = in_front _ _ st.waiting left (to_all_alike n i step s b) (joined (to_all n i step s b) left same)
 
   -- nothing is told of cases
   pub still : (e : Event) (next : Held) (now : State) → ((j d r : ℕ) (f x : Option Side) → Advancing j d r f x e → ⊥) → ((j d : ℕ) (v : Side) → Opening j d v e → ⊥) → ((j d : ℕ) → decision_of (e ∷ es) j d ≡ decision_of es j d) → next.cases ≡ h.cases → ((j d q : ℕ) → now.said (Ballot j d q) ≡ st.said (Ballot j d q)) → ((j d : ℕ) → j < line.plan.n → Part (ballots_at line.plan h j d) (ballots_at line.plan next j d)) → CasesShown line coin (e ∷ es) next now

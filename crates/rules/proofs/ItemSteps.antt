@@ -29,7 +29,8 @@ use Rattle.rules.proofs.Records.{world_of}
 use Rattle.rules.proofs.Ballots.{same_ballots, ballot_accepted, accepted_ballot}
 use Rattle.rules.proofs.Shows.{Shows, items_on, bodies_on, stranger, AnnounceAllowed, announce_allowed, forge_allowed, deliver_allowed, no_stranger, no_strange_sender, not_stranger}
 use Rattle.rules.proofs.Deliveries as deliveries
-use Rattle.rules.proofs.Follows.{Follow, joined, still}
+use Rattle.rules.proofs.Sending.{in_front}
+use Rattle.rules.proofs.Follows.{Follow, joined_all, still}
 
 module _ (line : Line) (capacity : ℕ) (coin : Coin) (es : List Event) (h : Held) (ws : List Message) (st : State) (shows : Shows line coin es h ws st) where
   pub by_refused : (turn : _) (e : Refusal) (after : Held) (left : List Message) → Happens line capacity h ws coin (refused turn e) after left → Follow line coin st (refused turn e ∷ es) after left
@@ -132,7 +133,7 @@ module _ (line : Line) (capacity : ℕ) (coin : Coin) (es : List Event) (h : Hel
     pub by_announced : Follow line coin st (announced i b k posted ∷ es) after left
     by_announced = (
       next,
-      λ run. machine.after run (machine.tell (Item i k) b left (may.process, may.correct) none_said (joined line capacity coin es h ws st shows (to_all line.plan.n i Initial (Item i k) b) left a.done.carrier)),
+      λ run. machine.after run (machine.tell (Item i k) b left (may.process, may.correct) none_said (joined_all line capacity coin es h ws st shows line.plan.n i Initial (Item i k) b left a.done.carrier)),
       subst (λ x. Shows line coin (announced i b k posted ∷ es) x left next) (sym a.done.memory) shown,
     )
 
@@ -200,9 +201,9 @@ module _ (line : Line) (capacity : ℕ) (coin : Coin) (es : List Event) (h : Hel
         let here = deliveries.here_is line h shows.mirrors.large m to sound.0 sound.1 st.recs shows.mirrors.records in
         let a = m.addressee in
         let sent : Same left (sends line.plan.n a m.subject (st.recs a m.subject) (machine.delivered (world_of line) m st.recs a m.subject) ++ d.rest) =
-        subst (λ (r : Rec). Same left (sends line.plan.n a m.subject (st.recs a m.subject) r ++ d.rest)) (sym here) (subst (λ xs. Same left (xs ++ d.rest)) at.sent end.carrier) in
+        subst (λ (r : Rec). Same left (sends line.plan.n a m.subject (st.recs a m.subject) r ++ d.rest)) (sym here) (in_front _ _ d.rest left at.sent end.carrier) in
         let turn : machine.Turn (world_of line) st next = machine.deliver m d.rest left (to, good) taken sent in
-        let grows : (j d : ℕ) → j < line.plan.n → PartMut (ballots_at line.plan h j d) (ballots_at line.plan o.held j d) = λ j d lt k r b x.
+        let grows : (j d : ℕ) → j < line.plan.n → Part (ballots_at line.plan h j d) (ballots_at line.plan o.held j d) = λ j d lt k r b x.
         let old = ballot_accepted line h st.recs shows.mirrors.records j d k r b lt x in
         accepted_ballot line o.held next.recs (deliveries.keeps_landed line h shows.mirrors.large m to sound.0 sound.1 st.recs shows.mirrors.records) j d k r b lt old.0 ((lasts (world_of line) st next turn).accepted (Ballot k d (suc r)) j b old.1) in
         let now = deliveries.accepts line h shows.mirrors.large m to sound.0 sound.1 st.recs shows.mirrors.records in (

@@ -1,4 +1,5 @@
 pub mod Cases
+pub mod Sending
 pub mod Stages
 pub mod Rows
 pub mod Records
