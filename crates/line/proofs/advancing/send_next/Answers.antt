@@ -28,8 +28,8 @@ send_to_all-requires g c =
     let carrier = g.C.Carrier in
     let phases = c.phases.ensures ∙ ap (λ (p : Plan). p.phases) c.plan-plan.ensures in
     let n = c.n.ensures ∙ ap (λ (p : Plan). p.n) c.plan-plan.ensures in
-    let room = room_to_go_on line c.args.round (carrier.capacity c.args.carrier.now) (carrier.waiting c.args.carrier.now) (carrier.fits c.args.carrier.now) c.requires.1 (omega (arith, phases)) in
-    (omega (arith, n, line.plan.few), c.requires.0, omega (arith, n, room))
+    let room = room_to_go_on line c.args.round (carrier.capacity c.args.carrier.now) (carrier.waiting c.args.carrier.now) (carrier.fits c.args.carrier.now) c.requires.room (omega (arith, phases)) in
+    record { few = omega (arith, n, line.plan.few); sender = c.requires.process; room = omega (arith, n, room) }
 
 pub returns : goal.returns
 returns g c =

@@ -14,7 +14,7 @@ pub returns-then-from-serials : goal.returns-then-from-serials
 returns-then-from-serials g c =
     let serials = ap (λ (p : Plan). p.serials) c.plan-plan.ensures in
     record {
-      turn = record { first = used_up c.args.line.now (g.C.Carrier.capacity c.args.carrier.now) (held c.args.memory.now) (g.C.Carrier.waiting c.args.carrier.now) c.args.process (g.row.I-Item.packed c.args.value.now) c.in_ok-check_correct.ensures.first (omega (arith, serials)); memory = refl; carrier = refl };
+      turn = record { first = used_up c.args.line.now (g.C.Carrier.capacity c.args.carrier.now) (held c.args.memory.now) (g.C.Carrier.waiting c.args.carrier.now) c.args.process (g.I.Item.packed c.args.value.now) c.in_ok-check_correct.ensures.first (omega (arith, serials)); memory = refl; carrier = refl };
       kept = refl;
       order = tt;
     }
@@ -26,7 +26,7 @@ returns-then-from-n g c =
     record {
       turn =
           record {
-            first = no_room c.args.line.now (g.C.Carrier.capacity c.args.carrier.now) (held c.args.memory.now) (g.C.Carrier.waiting c.args.carrier.now) c.args.process (g.row.I-Item.packed c.args.value.now) c.in_ok-check_correct.ensures.first (omega (arith, serials)) (omega (arith, n, c.args.line.now.plan.few));
+            first = no_room c.args.line.now (g.C.Carrier.capacity c.args.carrier.now) (held c.args.memory.now) (g.C.Carrier.waiting c.args.carrier.now) c.args.process (g.I.Item.packed c.args.value.now) c.in_ok-check_correct.ensures.first (omega (arith, serials)) (omega (arith, n, c.args.line.now.plan.few));
             memory = refl;
             carrier = refl;
           };
@@ -45,7 +45,7 @@ returns g c =
     let serials = ap (λ (p : Plan). p.serials) c.plan-plan.ensures in
     let all = c.n-2.ensures ∙ n in
     let row = to_all c.n-2.result i Initial (Item i k) c.pack.result in
-    let same : row ≡ initials line i k (g.row.I-Item.packed c.args.value.now) = λ j. to_all (all j) i Initial (Item i k) (c.pack.ensures.value j) in
+    let same : row ≡ initials line i k (g.I.Item.packed c.args.value.now) = λ j. to_all (all j) i Initial (Item i k) (c.pack.ensures.value j) in
     let sent = subst (λ (ms : List Message). Sent carrier.waiting carrier.capacity carrier.posting c.args.carrier.now ms c.send_to_all-posted.new.carrier) same c.send_to_all-posted.ensures.sent in
     record {
       turn =
@@ -53,7 +53,7 @@ returns g c =
             serial = omega arith;
             done =
                 record {
-                  allowed = may_announce c.args.line.now (g.C.Carrier.capacity c.args.carrier.now) (held c.args.memory.now) (g.C.Carrier.waiting c.args.carrier.now) c.args.process (g.row.I-Item.packed c.args.value.now) c.in_ok-check_correct.ensures.first (omega (arith, serials)) (omega (arith, n));
+                  allowed = may_announce c.args.line.now (g.C.Carrier.capacity c.args.carrier.now) (held c.args.memory.now) (g.C.Carrier.waiting c.args.carrier.now) c.args.process (g.I.Item.packed c.args.value.now) c.in_ok-check_correct.ensures.first (omega (arith, serials)) (omega (arith, n));
                   memory = c.set_next_serial.ensures ∙ ap (λ (x : ℕ). with_serial i (x + 1) h) (sym c.from-serial.ensures);
                   carrier = sent.same;
                   counted = c.send_to_all-posted.ensures.count ∙ ap length same;

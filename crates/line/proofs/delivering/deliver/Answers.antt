@@ -41,7 +41,7 @@ reply-posted-requires g c =
     let n = ap (λ (p : Plan). p.n) c.plan-plan.ensures in
     let role : faulty line c.args.process ≡ false = sym c.is_faulty.ensures.value ∙ c.if-is_faulty.false in
     let room = room_left line (held c.args.memory.now) c.args.process c.args.pick c.in_ok-message.message (carrier.waiting before) (carrier.waiting mid) taken.taken (carrier.capacity before) (carrier.fits before) c.in_ok-check_room.ensures role in
-    (omega (arith, n, line.plan.few), omega (arith, n, room, taken.kept))
+    record { few = omega (arith, n, line.plan.few); room = omega (arith, n, room, taken.kept) }
 
 pub returns : goal.returns
 returns g c =

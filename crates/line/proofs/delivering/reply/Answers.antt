@@ -7,7 +7,7 @@ use Rattle.line.proofs.delivering.reply.Goals as goal
 pub send_if-readies-requires : goal.send_if-readies-requires
 send_if-readies-requires g c =
     let sent = c.send_if-echoes.ensures.sent in
-    (c.requires.0, omega (arith, sent_length _ _ _ _ _ _ sent, sent.kept, passed_le c.args.reaction.echo c.args.n c.args.message.now Echo))
+    record { few = c.requires.few; room = omega (arith, sent_length _ _ _ _ _ _ sent, sent.kept, passed_le c.args.reaction.echo c.args.n c.args.message.now Echo) }
 
 pub overflow_add-result : goal.overflow_add-result
 overflow_add-result g c =

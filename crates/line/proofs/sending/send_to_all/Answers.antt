@@ -16,7 +16,7 @@ pub loop-addressee-preserved : goal.loop-addressee-preserved
 loop-addressee-preserved g c =
     let posted = c.in-Ok-post.ensures in
     sent_more _ _ _ c.args.sender c.args.step c.args.subject c.args.body _ c.loop-addressee.addressee c.loop-addressee.carrier _ c.in-Ok.message
-    c.requires.1
+    c.requires.sender
     (omega arith)
     c.in-Ok.ensures
     c.loop-addressee.invariant

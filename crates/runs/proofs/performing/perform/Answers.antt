@@ -6,7 +6,7 @@ use Rattle.runs.proofs.performing.perform.Goals as goal
 
 pub returns-in-Ok : goal.returns-in-Ok
 returns-in-Ok g c =
-    let packed = g.row.I-Item.packed in
+    let packed = g.I.Item.packed in
     let done = c.in-Ok.ensures in
     let a = c.in-Ok.announced in
     record {
@@ -23,7 +23,7 @@ returns-in-Ok g c =
 
 pub returns-in-Err : goal.returns-in-Err
 returns-in-Err g c =
-    let packed = g.row.I-Item.packed in
+    let packed = g.I.Item.packed in
     let done = c.in-Err.ensures in
     record {
       event =
@@ -44,7 +44,7 @@ returns-in-Ok-open_case g c =
       event =
           record {
             event = opened c.in-Open.process c.in-Open.case c.in-Open.vote c.in-Ok-open_case.posted;
-            told = ap (asked g.row.I-Item.packed) (sym c.in-Open.is);
+            told = ap (asked g.I.Item.packed) (sym c.in-Open.is);
             answer = refl;
             happens = done.turn;
             carried = done.order;
@@ -59,7 +59,7 @@ returns-in-Err-open_case g c =
       event =
           record {
             event = refused (rules.Open c.in-Open.process c.in-Open.case c.in-Open.vote) c.in-Err-open_case.refusal;
-            told = ap (asked g.row.I-Item.packed) (sym c.in-Open.is);
+            told = ap (asked g.I.Item.packed) (sym c.in-Open.is);
             answer = refl;
             happens = done.turn;
             carried = tt;
@@ -74,7 +74,7 @@ returns-in-Ok-forge g c =
       event =
           record {
             event = forged c.in-Forge.message c.in-Ok-forge.posted;
-            told = ap (asked g.row.I-Item.packed) (sym c.in-Forge.is);
+            told = ap (asked g.I.Item.packed) (sym c.in-Forge.is);
             answer = refl;
             happens = done.turn;
             carried = done.order;
@@ -89,7 +89,7 @@ returns-in-Err-forge g c =
       event =
           record {
             event = refused (rules.Forge c.in-Forge.message) c.in-Err-forge.refusal;
-            told = ap (asked g.row.I-Item.packed) (sym c.in-Forge.is);
+            told = ap (asked g.I.Item.packed) (sym c.in-Forge.is);
             answer = refl;
             happens = done.turn;
             carried = tt;
@@ -105,7 +105,7 @@ returns-in-Ok-deliver g c =
       event =
           record {
             event = delivered c.in-Deliver.process c.in-Deliver.pick done.turn.message d.posted d.accepted;
-            told = ap (asked g.row.I-Item.packed) (sym c.in-Deliver.is);
+            told = ap (asked g.I.Item.packed) (sym c.in-Deliver.is);
             answer = refl;
             happens = done.turn.happens;
             carried = done.turn.order;
@@ -120,7 +120,7 @@ returns-in-Err-deliver g c =
       event =
           record {
             event = refused (rules.Deliver c.in-Deliver.process c.in-Deliver.pick) c.in-Err-deliver.refusal;
-            told = ap (asked g.row.I-Item.packed) (sym c.in-Deliver.is);
+            told = ap (asked g.I.Item.packed) (sym c.in-Deliver.is);
             answer = refl;
             happens = done.turn;
             carried = tt;
@@ -137,7 +137,7 @@ returns-in-Ok-advance g c =
       event =
           record {
             event = advanced c.in-Advance.process c.in-Advance.case went.round went.forced went.decides a.round a.posted;
-            told = ap (asked g.row.I-Item.packed) (sym c.in-Advance.is);
+            told = ap (asked g.I.Item.packed) (sym c.in-Advance.is);
             answer = refl;
             happens = went.happens;
             carried = (went.happens.step, went.happens.by, went.order);
@@ -152,7 +152,7 @@ returns-in-Err-advance g c =
       event =
           record {
             event = refused (rules.Advance c.in-Advance.process c.in-Advance.case) c.in-Err-advance.refusal;
-            told = ap (asked g.row.I-Item.packed) (sym c.in-Advance.is);
+            told = ap (asked g.I.Item.packed) (sym c.in-Advance.is);
             answer = refl;
             happens = done.turn;
             carried = tt;

@@ -16,4 +16,4 @@ shared packed draft capacity coin h ws turns (Ok line) next left alike made = re
 shared packed draft capacity coin h ws turns (Err refused) next left alike unopened = unopened
 
 pub returns : goal.returns
-returns g c = shared g.row.I-Item.packed c.args.draft _ _ _ _ c.args.turns.now c.run.result _ _ c.toss_for_all.ensures.alike c.run.ensures
+returns g c = shared g.I.Item.packed c.args.draft _ _ _ _ c.args.turns.now c.run.result _ _ c.toss_for_all.ensures.alike c.run.ensures
