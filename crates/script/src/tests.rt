@@ -4,7 +4,7 @@ use std::test::Fail;
 #[test]
 fn an_empty_script_gets_no_answer(rt: HostRuntime) -> Result<(), Fail> {
     let text = lint(rt.alloc(), b"")?;
-    assert!(rt; text.as_bytes() == b"");
+    assert!(rt; text.as_bytes() == b"".as_slice());
     Ok(())
 }
 
@@ -12,8 +12,8 @@ fn an_empty_script_gets_no_answer(rt: HostRuntime) -> Result<(), Fail> {
 fn a_last_line_may_have_its_line_break(rt: HostRuntime) -> Result<(), Fail> {
     let with = lint(rt.alloc(), b"(advance (counter 0) (case 0))\n")?;
     let without = lint(rt.alloc(), b"(advance (counter 0) (case 0))")?;
-    assert!(rt; with.as_bytes() == b"(advance (counter 0) (case 0))\n");
-    assert!(rt; without.as_bytes() == b"(advance (counter 0) (case 0))\n");
+    assert!(rt; with.as_bytes() == b"(advance (counter 0) (case 0))\n".as_slice());
+    assert!(rt; without.as_bytes() == b"(advance (counter 0) (case 0))\n".as_slice());
     Ok(())
 }
 
@@ -22,7 +22,7 @@ fn an_empty_line_is_a_line(rt: HostRuntime) -> Result<(), Fail> {
     let text = lint(rt.alloc(), b"\n\n")?;
     let faults =
         b"(fault (layer form) (line 1) (byte 1))\n(fault (layer form) (line 2) (byte 1))\n";
-    assert!(rt; text.as_bytes() == faults);
+    assert!(rt; text.as_bytes() == faults.as_slice());
     Ok(())
 }
 
@@ -30,9 +30,9 @@ fn an_empty_line_is_a_line(rt: HostRuntime) -> Result<(), Fail> {
 fn a_script_has_a_limit(rt: HostRuntime) -> Result<(), Fail> {
     let longest = vec![in rt.alloc(); b'x'; 4096]?;
     let text = lint(rt.alloc(), longest.as_slice())?;
-    assert!(rt; text.as_bytes() == b"(fault (layer form) (line 1) (byte 1))\n");
+    assert!(rt; text.as_bytes() == b"(fault (layer form) (line 1) (byte 1))\n".as_slice());
     let longer = vec![in rt.alloc(); b'x'; 4097]?;
     let text = lint(rt.alloc(), longer.as_slice())?;
-    assert!(rt; text.as_bytes() == b"(refused 2)\n");
+    assert!(rt; text.as_bytes() == b"(refused 2)\n".as_slice());
     Ok(())
 }
