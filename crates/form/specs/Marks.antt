@@ -1,5 +1,5 @@
 -- The marks of a line form as a list.
-use Rattle.std.specs.Prelude.{ℕ, ◌+◌, ◌-◌, Bool, cond, List, [], ◌∷◌, ◌++◌, length, take, replicate, nat_lt, slice_set}
+use Rattle.std.specs.Prelude.{ℕ, ◌+◌, ◌-◌, Bool, cond, List, ◌++◌, length, take, replicate, nat_lt, slice_set}
 use Rattle.form.specs.declared.forms.Marks.{Marks}
 
 abbrev pub listed : Marks → List ℕ

@@ -6,7 +6,6 @@ use Rattle.token.specs.declared.fault.TokenFault.{TokenFault}
 use Rattle.token.specs.declared.lex.Token.{Token as Lexeme}
 use Rattle.token.specs.Scan.{left, here, onward, scanned, spelled, Apt, taken, remaining}
 use Rattle.token.specs.Tokens.{behind, lawful, spelling}
-use Rattle.grammar.specs.declared.fault.FormFault.{FormFault}
 use Rattle.grammar.specs.declared.fault.FormFault.TheVariants.{Token, Unexpected}
 use Rattle.form.specs.declared.forms.Form.{Form}
 use Rattle.grammar.specs.Grammar.{Shape, done, next, run}

@@ -7,7 +7,6 @@ use Rattle.protocol.specs.declared.messages.Step.TheVariants.{Initial, Echo, Rea
 use Rattle.protocol.specs.declared.messages.Subject.{Subject}
 use Rattle.protocol.specs.declared.messages.Subject.TheVariants.{Item, Ballot}
 use Rattle.token.specs.declared.fault.Place.{Place}
-use Rattle.token.specs.declared.fault.TokenFault.{TokenFault}
 use Rattle.token.specs.Scan.{onward}
 use Rattle.token.specs.Tokens.{pieces, lawful, worth}
 use Rattle.grammar.specs.declared.fault.FormFault.{FormFault}

@@ -1,11 +1,11 @@
 -- The loop that reads marks.
-use Rattle.std.proofs.Common.{◌≡◌, ℕ, suc, ◌+◌, ◌-◌, ◌<◌, ◌≤◌, Bool, true, false, cond, ltb, List, [], ◌∷◌, ◌++◌, length, set, replicate, Ok, Err, codes, sym, refl, ap, ◌∙◌, subst, append_assoc, arith, length-append, lt-ltb}
+use Rattle.std.proofs.Common.{◌≡◌, ℕ, suc, ◌+◌, ◌-◌, ◌<◌, ◌≤◌, Bool, true, false, cond, ltb, List, [], ◌∷◌, ◌++◌, length, set, replicate, Ok, Err, codes, sym, refl, ap, ◌∙◌, append_assoc, arith, length-append, lt-ltb}
 use Rattle.std.proofs.lemmas.List.{set_at}
 use Rattle.token.specs.declared.cursor.Cursor.{Cursor}
 use Rattle.grammar.specs.declared.fault.FormFault.{FormFault}
 use Rattle.form.specs.declared.forms.Marks.{Marks}
 use Rattle.grammar.specs.Grammar.{Shape, another, number, word, marks, all_marks}
-use Rattle.form.specs.Marks.{stored, added, room_for}
+use Rattle.form.specs.Marks.{stored, added}
 use Rattle.grammar.specs.Reads.{ahead, Reads}
 
 stored_more : (ms : List ℕ) (m : ℕ) → length ms < 16 → added (stored ms) m ≡ stored (ms ++ m ∷ [])

@@ -1,11 +1,10 @@
 use Rattle.std.proofs.Common.{◌≡◌, ℕ, Bool, true, false, cond, ◌||◌, List, Err, codes, Result, sym, refl, ap, ◌∙◌}
 use Rattle.std.specs.Str.{bytes_eq}
-use Rattle.token.specs.declared.cursor.Cursor.{Cursor}
 use Rattle.token.specs.Scan.{here}
 use Rattle.grammar.specs.declared.fault.FormFault.{FormFault}
 use Rattle.grammar.specs.declared.fault.FormFault.TheVariants.{Unexpected}
 use Rattle.form.specs.declared.forms.Form.{Form}
-use Rattle.grammar.specs.Grammar.{Shape, known, commands, named, command, line, announce, opening, forge, deliver, advance}
+use Rattle.grammar.specs.Grammar.{Shape, known, commands, named, line, announce, opening, forge, deliver, advance}
 use Rattle.grammar.specs.Reads.{ahead}
 use Rattle.reader.proofs.command.read_command.Goals as goal
 

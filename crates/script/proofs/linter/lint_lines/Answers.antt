@@ -1,4 +1,4 @@
-use Rattle.std.proofs.Common.{◌-◌, ◌≤◌, length, drop, refl, ◌∙◌, arith, length-drop, rules}
+use Rattle.std.proofs.Common.{refl, arith}
 use Rattle.text.specs.Shown.{shown}
 use Rattle.script.proofs.Lines.{answered, all_answered}
 use Rattle.script.proofs.linter.lint_lines.Goals as goal
