@@ -1,12 +1,11 @@
 -- The bits of a body. Assumes nothing.
-use Rattle.std.specs.Prelude.{◌≡◌, ℕ, ◌+◌, ◌*◌, ◌/◌, ◌%◌, ◌^◌, ◌<◌, ◌≤◌, Some, Ok, bit_and, bit_or, refl}
+use Rattle.std.specs.Prelude.{◌≡◌, ℕ, ◌+◌, ◌*◌, ◌/◌, ◌%◌, ◌^◌, ◌<◌, ◌≤◌, bit_and, bit_or}
 use Rattle.std.proofs.Common.{sym, ap, ◌∙◌, arith}
 use Rattle.std.proofs.lemmas.Nat.{shr_split, shr-shr, or_shifted, and_mask}
 use Rattle.std.specs.Result.{result_ok}
 use Rattle.item.specs.Laws.{Faithful}
 use Rattle.item.specs.Records.{body_of, record_in, recorded}
 use Rattle.item.specs.Tags.{number_of, tag_in}
-use Rattle.item.specs.declared.records.Record.{Record}
 use Rattle.item.specs.Made.{good_part, recorded_at, recorded_fields, tagged_of, tagged_number}
 
 -- bits above and bits below place k are put together by their sum

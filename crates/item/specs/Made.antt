@@ -6,7 +6,6 @@ use mathlib.Core.HLevel.{is_prop→PathP}
 use Rattle.std.proofs.Math.Bridge.{le_prop}
 use Rattle.std.proofs.lemmas.Bool.{and_from, le-leb, true≢false}
 use Rattle.std.specs.Result.{result_ok}
-use Rattle.protocol.specs.declared.refusals.Refusal.{Refusal}
 use Rattle.protocol.specs.declared.refusals.Refusal.TheVariants.{ValueOutOfRange}
 use Rattle.item.specs.declared.records.Record.{Record}
 use Rattle.item.specs.declared.tags.Tag.{Tag}

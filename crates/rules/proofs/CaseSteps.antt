@@ -1,5 +1,5 @@
 -- Opening a case and advancing tell a ballot in the machine of broadcasts; asides leave it where it is.
-use Rattle.std.proofs.Common.{◌≡◌, ℕ, suc, ◌+◌, ◌-◌, ◌*◌, ◌/◌, ◌<◌, ◌≤◌, true, false, ◌&&◌, eqb, ltb, leb, ◌⊎◌, List, [], ◌∷◌, ◌++◌, length, get_or, Some, None, Option, sym, refl, ap, ◌∙◌, subst, ap₂, subst₂, ⊎_elim, arith}
+use Rattle.std.proofs.Common.{◌≡◌, ℕ, suc, ◌+◌, ◌-◌, ◌*◌, ◌/◌, ◌<◌, ◌≤◌, true, false, ◌&&◌, eqb, ltb, leb, List, [], ◌∷◌, ◌++◌, length, get_or, Some, None, Option, sym, refl, ap, ◌∙◌, subst, ap₂, subst₂, ⊎_elim, arith}
 use Rattle.std.proofs.lemmas.Bool.{eqb-true, and_parts, and_from, leb-true, ltb-true, ltb-false, lt-ltb, le-leb, cond-true, cond-false, cases_Bool}
 use Rattle.protocol.specs.Bags.{Same}
 use Rattle.protocol.specs.Numbers.{ballot_number}
@@ -13,7 +13,7 @@ use Rattle.agreement.proofs.Bodies.{none_some}
 use Rattle.plan.specs.Plans.{needs_of}
 use Rattle.protocol.proofs.Bags.{count_append}
 use Rattle.plan.specs.declared.drafts.Line.{Line}
-use Rattle.memory.specs.Contents.{Held, silent, unopened, case_at}
+use Rattle.memory.specs.Contents.{Held, silent, case_at}
 use Rattle.memory.specs.Places.{enough, place, case_place}
 use Rattle.memory.specs.declared.records.BroadcastRecord.{BroadcastRecord}
 use Rattle.memory.specs.declared.records.CaseRecord.{CaseRecord}
@@ -32,7 +32,6 @@ use Rattle.rules.proofs.Records.{Rows}
 use Rattle.rules.proofs.Cases.{CaseShown, Tale, same_tale, carried, all_carried, case_opened, case_advanced}
 use Rattle.rules.proofs.Ballots.{same_ballots, moved_here, moved_other, moved_large, said_other, said_round, opened_elsewhere, advanced_elsewhere}
 use Rattle.rules.proofs.Shows.{Shows, items_on, bodies_on, stranger, OpenAllowed, open_allowed, AdvanceAllowed, advance_allowed, no_stranger}
-use Rattle.rules.proofs.Deliveries as deliveries
 use Rattle.rules.proofs.Follows.{Follow, joined_all}
 
 module _ (line : Line) (capacity : ℕ) (coin : Coin) (es : List Event) (h : Held) (ws : List Message) (st : State) (shows : Shows line coin es h ws st) where

@@ -1,5 +1,5 @@
 -- What it means that the machine of broadcasts follows a run.
-use Rattle.std.proofs.Common.{◌≡◌, ℕ, ◌+◌, ◌-◌, ◌<◌, List, ◌∷◌, ◌++◌, get_or, Option, ap, arith}
+use Rattle.std.proofs.Common.{◌≡◌, ℕ, ◌<◌, List, ◌∷◌, ◌++◌, get_or, Option, ap, arith}
 use Rattle.protocol.specs.Bags.{Same}
 use Rattle.protocol.specs.declared.messages.Message.{Message}
 use Rattle.protocol.specs.declared.messages.Step.{Step}
@@ -11,7 +11,6 @@ use Rattle.protocol.specs.declared.votes.Side.{Side}
 use Rattle.plan.specs.declared.drafts.Line.{Line}
 use Rattle.memory.specs.Contents.{Held, unopened}
 use Rattle.memory.specs.declared.records.CaseRecord.{CaseRecord}
-use Rattle.broadcast.specs.Stages.{nothing}
 use Rattle.agreement.specs.Runs as machine
 use Rattle.agreement.specs.Runs.{State, told}
 use Rattle.consensus.specs.Validity.{Part}
@@ -22,7 +21,6 @@ use Rattle.rules.proofs.Records.{world_of}
 use Rattle.rules.proofs.Cases.{CasesShown, untold, all_carried}
 use Rattle.rules.proofs.Shows.{Shows}
 use Rattle.rules.proofs.Sending.{to_all_alike, in_front}
-use Rattle.rules.proofs.Deliveries as deliveries
 
 -- the machine can follow to a state that shows where the run came to
 abbrev pub Follow : Line → Coin → State → List Event → Held → List Message → Type 0

@@ -1,5 +1,5 @@
 -- Turns on items are turns of the machine of broadcasts, and a refused one changes nothing.
-use Rattle.std.proofs.Common.{◌≡◌, ℕ, suc, ◌+◌, ◌-◌, ◌<◌, ◌≤◌, Bool, true, false, cond, ◌&&◌, eqb, ◌⊎◌, List, [], ◌∷◌, ◌++◌, length, get_or, set, Some, None, sym, refl, ap, ◌∙◌, subst, ap₂, subst₂, inl, inr, ⊎_elim, arith, length-set, get_or-set_other, get_or-set_same}
+use Rattle.std.proofs.Common.{◌≡◌, ℕ, suc, ◌+◌, ◌<◌, ◌≤◌, Bool, true, false, cond, ◌&&◌, eqb, List, [], ◌∷◌, ◌++◌, length, get_or, set, Some, None, sym, refl, ap, ◌∙◌, subst, ap₂, subst₂, inl, inr, ⊎_elim, arith, length-set, get_or-set_other, get_or-set_same}
 use Rattle.std.proofs.lemmas.Bool.{both_ways, eqb-true, eqb-false, eq-eqb, and_parts, and_from, lt-ltb, le-leb, cond-true, cond-false, cases_Bool}
 use Rattle.protocol.specs.Bags.{count, Same}
 use Rattle.protocol.specs.Sending.{to_all}
@@ -23,7 +23,7 @@ use Rattle.agreement.proofs.Bodies.{when_stays, when_set, when_from}
 use Rattle.agreement.proofs.Theorem.{lasts}
 use Rattle.consensus.specs.Validity.{Part}
 use Rattle.ballots.specs.Places.{ballots_at}
-use Rattle.rules.specs.Turns.{faulty, refusal, Deliver, said, reacted, replies, Done}
+use Rattle.rules.specs.Turns.{faulty, refusal, Deliver, reacted, replies, Done}
 use Rattle.rules.specs.Runs.{Event, refused, announced, forged, delivered, Coin, Announces, Delivers, Happens}
 use Rattle.rules.proofs.Records.{world_of}
 use Rattle.rules.proofs.Ballots.{same_ballots, ballot_accepted, accepted_ballot}

@@ -1,10 +1,10 @@
 -- What is sent to all, in the order of the rules and in that of the machine of broadcasts: the same messages.
-use Rattle.std.proofs.Common.{◌≡◌, ℕ, zero, suc, ◌+◌, Bool, true, false, cond, List, [], ◌∷◌, ◌++◌, refl, arith}
+use Rattle.std.proofs.Common.{ℕ, zero, suc, Bool, true, false, cond, List, [], ◌∷◌, ◌++◌, refl, arith}
 use Rattle.protocol.specs.declared.messages.Message.{Message}
 use Rattle.protocol.specs.declared.messages.Step.{Step}
 use Rattle.protocol.specs.declared.messages.Step.TheVariants.{Echo, Ready}
 use Rattle.protocol.specs.declared.messages.Subject.{Subject}
-use Rattle.protocol.specs.Bags.{count, Same}
+use Rattle.protocol.specs.Bags.{Same}
 use Rattle.protocol.specs.Messages.{message}
 use Rattle.protocol.specs.Sending.{to_all}
 use Rattle.protocol.proofs.Bags.{count_none, count_cons, count_append}

@@ -1,14 +1,11 @@
 -- Each event of a run is a turn of the machine of broadcasts, or changes nothing.
-use Rattle.std.proofs.Common.{ℕ, ◌-◌, List, ◌∷◌}
+use Rattle.std.proofs.Common.{ℕ, List, ◌∷◌}
 use Rattle.protocol.specs.declared.messages.Message.{Message}
 use Rattle.plan.specs.declared.drafts.Line.{Line}
 use Rattle.memory.specs.Contents.{Held}
-use Rattle.broadcast.specs.Stages.{nothing}
-use Rattle.agreement.specs.Runs as machine
 use Rattle.agreement.specs.Runs.{State}
 use Rattle.rules.specs.Runs.{Event, refused, announced, opened, forged, delivered, advanced, Coin, Happens}
 use Rattle.rules.proofs.Shows.{Shows}
-use Rattle.rules.proofs.Deliveries as deliveries
 use Rattle.rules.proofs.Follows.{Follow}
 use Rattle.rules.proofs.ItemSteps.{by_refused, by_announced, by_forged, by_delivered}
 use Rattle.rules.proofs.CaseSteps.{by_opened, by_advanced}

@@ -20,7 +20,6 @@ use Rattle.agreement.specs.Broadcasts as broadcasts
 use Rattle.agreement.proofs.Counts.{counted_lawful}
 use Rattle.agreement.proofs.Theorem as theorem
 use Rattle.consensus.specs.Rounds.{Accepted, Third, kind}
-use Rattle.consensus.specs.Validity as validity
 use Rattle.consensus.specs.Validity.{Quorum, Part, Resilient}
 use Rattle.consensus.specs.Accounts.{Account, Outcomes}
 use Rattle.consensus.proofs.Accounts.{outcomes}

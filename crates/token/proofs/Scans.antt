@@ -1,8 +1,7 @@
 -- What a cursor's next token leaves.
-use Rattle.std.proofs.Common.{◌≡◌, ℕ, ◌+◌, ◌-◌, ◌≤◌, Bool, true, false, cond, eqb, List, [], ◌∷◌, length, take, drop, Some, None, Ok, Err, Option, Result, sym, refl, ap, ◌∙◌, subst, add-zero, arith, true-eqb}
+use Rattle.std.proofs.Common.{◌≡◌, ℕ, ◌+◌, ◌-◌, true, false, cond, eqb, List, [], ◌∷◌, length, take, drop, Some, None, Ok, Err, sym, refl, ap, ◌∙◌, add-zero, arith, true-eqb}
 use Rattle.std.proofs.lemmas.List.{take_rest, drop-drop, nil_from_length}
 use Rattle.token.specs.declared.cursor.Cursor.{Cursor}
-use Rattle.token.specs.declared.fault.TokenFault.{TokenFault}
 use Rattle.token.specs.declared.fault.Place.{Place}
 use Rattle.token.specs.declared.lex.Token.{Token}
 use Rattle.token.specs.Tokens.{pieces, front, behind, lawful, spelling, First}

@@ -1,4 +1,4 @@
-use Rattle.std.proofs.Common.{sym, ap, ◌∙◌, true-eqb}
+use Rattle.std.proofs.Common.{ap, true-eqb}
 use Rattle.std.proofs.lemmas.List.{nil_from_length}
 use Rattle.token.specs.Tokens.{lawful}
 use Rattle.token.proofs.lex.lex.Goals as goal
