@@ -5,7 +5,7 @@ use text::Text;
 #[test]
 fn an_empty_script_gets_no_answer(rt: HostRuntime) -> Result<(), Fail> {
     let text = rehearse(rt.alloc(), b"")?;
-    assert!(rt; text.as_bytes() == b"");
+    assert!(rt; text.as_bytes() == b"".as_slice());
     Ok(())
 }
 
@@ -13,7 +13,7 @@ fn an_empty_script_gets_no_answer(rt: HostRuntime) -> Result<(), Fail> {
 fn a_script_has_a_limit(rt: HostRuntime) -> Result<(), Fail> {
     let longer = vec![in rt.alloc(); b'\n'; 4097]?;
     let text = rehearse(rt.alloc(), longer.as_slice())?;
-    assert!(rt; text.as_bytes() == b"(refused 2)\n");
+    assert!(rt; text.as_bytes() == b"(refused 2)\n".as_slice());
     Ok(())
 }
 
