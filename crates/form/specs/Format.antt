@@ -1,6 +1,6 @@
 -- How a form is written, and which forms a program can hold.
 use Rattle.std.specs.Prelude.{◌≡◌, ℕ, ◌^◌, ◌<◌, ◌≤◌, List, [], ◌∷◌, ◌++◌, length, codes, decimal}
-use Rattle.std.specs.List.{AllByRecursion as All}
+use Rattle.std.specs.List.{AllByRecursion}
 use Rattle.protocol.specs.declared.messages.Step.{Step}
 use Rattle.protocol.specs.declared.messages.Step.TheVariants.{Initial, Echo, Ready}
 use Rattle.protocol.specs.declared.messages.Subject.{Subject}
@@ -45,7 +45,7 @@ SubjectFits (Ballot o c r) = Fits64 o × (Fits64 c × Fits64 r)
 -- at most 16 marks, kept as a program keeps them
 pub record MarksFit (ms : Marks) : Type 0 where
   pub few : length (listed ms) ≤ 16
-  pub each : All Fits64 (listed ms)
+  pub each : AllByRecursion Fits64 (listed ms)
   pub zeros : ms ≡ stored (listed ms)
 
 -- a form that a program can hold: its numbers have 64 bits

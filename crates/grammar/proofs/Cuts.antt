@@ -1,7 +1,7 @@
 -- The tokens of a written form.
 use Rattle.std.proofs.Common.{◌≡◌, ℕ, false, List, [], ◌∷◌, ◌++◌, get_or, codes, decimal, refl, ap, ◌∙◌, append_assoc}
 use Rattle.std.specs.Char.{is_ascii_digit}
-use Rattle.std.specs.List.{AllByRecursion as All}
+use Rattle.std.specs.List.{AllByRecursion}
 use Rattle.protocol.specs.declared.messages.Step.{Step}
 use Rattle.protocol.specs.declared.messages.Step.TheVariants.{Initial, Echo, Ready}
 use Rattle.protocol.specs.declared.messages.Subject.{Subject}
@@ -43,7 +43,7 @@ marks_end : (ms : List ℕ) → is_ascii_digit (get_or (tail ms) 0 0) ≡ false
 marks_end [] = refl
 marks_end (m ∷ ms) = refl
 
-marks_cut : (ms : List ℕ) → All Fits64 ms → pieces (tail ms) ≡ mark_tokens ms (codes ")" ∷ [])
+marks_cut : (ms : List ℕ) → AllByRecursion Fits64 ms → pieces (tail ms) ≡ mark_tokens ms (codes ")" ∷ [])
 marks_cut [] h = refl
 marks_cut (m ∷ ms) h = ap (λ ps. codes " " ∷ ps) (within m (marked ms) (codes "))") h.0 (marks_end ms) ∙ ap (λ ps. decimal m ∷ ps) (marks_cut ms h.1))
 

@@ -5,7 +5,7 @@ use Rattle.std.proofs.lemmas.Str.Parse.{IsNumeralModel, numerals_by_fold, tells_
 use Rattle.std.proofs.lemmas.Bool.{and_parts, both_ways, cases_lt}
 use Rattle.std.proofs.lemmas.Bool.Decides.{nat_tests}
 use Rattle.std.specs.Char.{is_ascii_digit}
-use Rattle.std.specs.List.{concat, AllByRecursion as All}
+use Rattle.std.specs.List.{concat, AllByRecursion}
 use Rattle.std.specs.Str.{all_ascii_digits}
 use Rattle.token.proofs.Pieces.{pieces_on, pieces_apart}
 use Rattle.token.specs.Tokens.{joins, front, behind, lead, pieces, worth_after, worth}
@@ -30,13 +30,13 @@ plain_one b = grind (arith, nat_tests)
 plain_more : (b : ℕ) (p : List ℕ) → joins b (get_or p 0 0) ≡ true → plain p ≡ true → plain (b ∷ p) ≡ true
 plain_more b p j h = grind (arith, nat_tests)
 
-plain_before : (b : ℕ) (ps : List (List ℕ)) (t : Bool) → joins b (lead ps) ≡ t → All (λ p. plain p ≡ true) ps → All (λ p. plain p ≡ true) (cond t ((b ∷ front ps) ∷ behind ps) ((b ∷ []) ∷ ps))
+plain_before : (b : ℕ) (ps : List (List ℕ)) (t : Bool) → joins b (lead ps) ≡ t → AllByRecursion (λ p. plain p ≡ true) ps → AllByRecursion (λ p. plain p ≡ true) (cond t ((b ∷ front ps) ∷ behind ps) ((b ∷ []) ∷ ps))
 plain_before b [] true j h = (plain_one b, tt)
 plain_before b [] false j h = (plain_one b, tt)
 plain_before b (p ∷ ps) true j h = (plain_more b p j h.0, h.1)
 plain_before b (p ∷ ps) false j h = (plain_one b, h)
 
-pub plain_pieces : (s : List ℕ) → All (λ p. plain p ≡ true) (pieces s)
+pub plain_pieces : (s : List ℕ) → AllByRecursion (λ p. plain p ≡ true) (pieces s)
 plain_pieces [] = tt
 plain_pieces (b ∷ bs) = plain_before b (pieces bs) (joins b (lead (pieces bs))) refl (plain_pieces bs)
 

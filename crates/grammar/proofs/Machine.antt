@@ -2,7 +2,7 @@
 use Rattle.std.proofs.Common.{◌≡◌, ℕ, ◌+◌, Bool, true, false, cond, not, ◌&&◌, ◌||◌, List, [], ◌∷◌, ◌++◌, length, get_or, Some, None, Ok, Err, Option, Result, sym, refl, ap, ◌∙◌, subst, add-zero, arith, length-append}
 use Rattle.std.proofs.lemmas.Bool.{and_parts, and_from, both_ways, cond-true}
 use Rattle.std.specs.Char.{is_ascii_digit}
-use Rattle.std.specs.List.{concat, AllByRecursion as All}
+use Rattle.std.specs.List.{concat, AllByRecursion}
 use Rattle.std.specs.Str.{all_ascii_digits}
 use Rattle.token.specs.declared.fault.Place.{Place}
 use Rattle.token.specs.Scan.{onward}
@@ -99,7 +99,7 @@ module _ (fits : List ℕ → Bool) (then : List ℕ → Shape) (p : List ℕ) (
       both_ways (lawful p && fits p) unfit (and_from (lawful p) (fits p) (ap lawful (sym is) ∙ (and_parts (lawful y.0) (plain y.0) y.3).0) (ap fits (sym is) ∙ y.4)))
 
 -- a run ends in the form that its tokens yield, or stops in a fault
-outcome : (s : Shape) (at : Place) (ps : List (List ℕ)) → Live s → All (λ p. plain p ≡ true) ps → Outcome s at ps (run s at ps)
+outcome : (s : Shape) (at : Place) (ps : List (List ℕ)) → Live s → AllByRecursion (λ p. plain p ≡ true) ps → Outcome s at ps (run s at ps)
 unfolding run
 outcome (done f) at [] l h = (refl, refl)
 outcome (done f) at (p ∷ ps) l h = at_once (done f) at (p ∷ ps) l (λ g more y same. apart p (first more) (ap first y.0) same)
@@ -113,10 +113,10 @@ outcome (next fits then) at (p ∷ ps) l h =
         further fits then p ps at t.0 t.1 h.0 (run (then p) (onward at (length p)) ps) (ih (l.3 p (and_from (lawful p) (plain p) t.0 h.0) t.1))
     go false e ih = refused fits then p ps at l e
 
-pub yields_from_run : (s : Shape) (at : Place) (ps : List (List ℕ)) (f : Form) → Live s → All (λ p. plain p ≡ true) ps → run s at ps ≡ Ok f → Yields s ps f
+pub yields_from_run : (s : Shape) (at : Place) (ps : List (List ℕ)) (f : Form) → Live s → AllByRecursion (λ p. plain p ≡ true) ps → run s at ps ≡ Ok f → Yields s ps f
 yields_from_run s at ps f l h e = subst (Outcome s at ps) e (outcome s at ps l h)
 
-pub stops_from_run : (s : Shape) (at : Place) (ps : List (List ℕ)) (e : FormFault) → Live s → All (λ p. plain p ≡ true) ps → run s at ps ≡ Err e → Stops s at ps e
+pub stops_from_run : (s : Shape) (at : Place) (ps : List (List ℕ)) (e : FormFault) → Live s → AllByRecursion (λ p. plain p ≡ true) ps → run s at ps ≡ Err e → Stops s at ps e
 stops_from_run s at ps e l h r = subst (Outcome s at ps) r (outcome s at ps l h)
 
 pub run_from_yields : (s : Shape) (at : Place) (ps : List (List ℕ)) (f : Form) → Yields s ps f → run s at ps ≡ Ok f

@@ -2,7 +2,7 @@
 use Rattle.std.proofs.Common.{◌≡◌, ℕ, true, false, List, [], ◌∷◌, codes, decimal, sym, refl, ap, ◌∙◌, subst, ⊎_elim}
 use Rattle.std.proofs.lemmas.Slice.Eq.{bytes_eq-Decides}
 use Rattle.std.proofs.lemmas.Bool.{both_ways, or_cases}
-use Rattle.std.specs.List.{AllByRecursion as All}
+use Rattle.std.specs.List.{AllByRecursion}
 use Rattle.std.specs.Str.{bytes_eq}
 use Rattle.token.specs.Tokens.{worth}
 use Rattle.form.specs.declared.forms.Form.{Form}
@@ -78,7 +78,7 @@ pub field_part : (name : List ℕ) → good name ≡ true → Part (field name) 
 field_part name g = behind (behind (behind (ahead arg_part (codes ")") refl) name g) (codes "(") refl) (codes " ") refl
 
 -- what holds of each of some words holds of a token that is one of them
-known_each : (P : List ℕ → Type 0) (ws : List (List ℕ)) (p : List ℕ) → All P ws → known ws p ≡ true → P p
+known_each : (P : List ℕ → Type 0) (ws : List (List ℕ)) (p : List ℕ) → AllByRecursion P ws → known ws p ≡ true → P p
 known_each P [] p h e = absurd (both_ways false refl e)
 known_each P (w ∷ ws) p h e =
     ⊎_elim (λ (s : bytes_eq p w ≡ true). subst P (sym ((bytes_eq-Decides p w).0 s)) h.0) (λ (t : known ws p ≡ true). known_each P ws p h.1 t) (or_cases (bytes_eq p w) (known ws p) e)
@@ -102,7 +102,7 @@ module _ {A B : Type 0} (then : (B → Shape) → List ℕ → Shape) (name : A 
   }
 
   -- the whole choice: w is any of its words
-  pub choice : (ws : List (List ℕ)) (w : List ℕ) → Offered ws w → All Branch ws → ((a : A) → Offered ws (head a)) → ((k : B → Shape) (a : A) (rest : List (List ℕ)) (f : Form) → Fit a → Yields (k (name a)) rest f → Yields (then k (head a)) (spell a rest) f) → Part (λ k. next (known ws) (then k)) name Fit (λ a rest. head a ∷ spell a rest)
+  pub choice : (ws : List (List ℕ)) (w : List ℕ) → Offered ws w → AllByRecursion Branch ws → ((a : A) → Offered ws (head a)) → ((k : B → Shape) (a : A) (rest : List (List ℕ)) (f : Form) → Fit a → Yields (k (name a)) rest f → Yields (then k (head a)) (spell a rest) f) → Part (λ k. next (known ws) (then k)) name Fit (λ a rest. head a ∷ spell a rest)
   choice ws w some each heads made = record {
     read = λ k ps f y.
         let o = (known_each Branch ws y.0 each y.4).read k y.1 f y.5 in

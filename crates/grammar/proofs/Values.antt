@@ -2,7 +2,7 @@
 use Rattle.std.proofs.Common.{◌≡◌, ℕ, zero, suc, ◌-◌, ◌≤◌, cond, List, [], ◌∷◌, ◌++◌, length, replicate, codes, decimal, sym, refl, ap, ◌∙◌, subst, append_assoc, append-nil, arith}
 use Rattle.std.proofs.lemmas.Slice.Eq.{bytes_eq-Decides}
 use Rattle.std.proofs.lemmas.List.{take_at}
-use Rattle.std.specs.List.{AllByRecursion as All}
+use Rattle.std.specs.List.{AllByRecursion}
 use Rattle.std.specs.Str.{bytes_eq}
 use Rattle.protocol.specs.declared.messages.Step.{Step}
 use Rattle.protocol.specs.declared.messages.Step.TheVariants.{Initial, Echo, Ready}
@@ -94,7 +94,7 @@ abbrev pub mark_tokens : List ℕ → List (List ℕ) → List (List ℕ)
 mark_tokens ms rest = mark_first ms ∷ mark_others ms rest
 
 abbrev MarkFits : ℕ → List ℕ → Type 0
-MarkFits n ms = (length ms ≤ n) × All Fits64 ms
+MarkFits n ms = (length ms ≤ n) × AllByRecursion Fits64 ms
 
 none_fits : (n : ℕ) → MarkFits n []
 none_fits n = (omega arith, tt)
@@ -153,7 +153,7 @@ listed_stored xs = take_at xs (replicate (16 - length xs) 0) (length xs) refl
 stored_fits : (xs : List ℕ) → MarkFits 16 xs → MarksFit (stored xs)
 stored_fits xs h =
     let same = sym (listed_stored xs) in
-    record { few = subst (λ l. length l ≤ 16) same h.0; each = subst (All Fits64) same h.1; zeros = ap stored same }
+    record { few = subst (λ l. length l ≤ 16) same h.0; each = subst (AllByRecursion Fits64) same h.1; zeros = ap stored same }
 
 -- the same, as a program keeps them
 pub strange_part : Part (λ k. marks 16 [] (λ xs. k (stored xs))) (λ ms. ms) MarksFit (λ ms. mark_tokens (listed ms))

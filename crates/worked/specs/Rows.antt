@@ -47,6 +47,6 @@ table =
     ∷ (step 4 1 Third 0 0 0 1 2 None None None
     ∷ (body 1 2 3 4 5 0x0102000300040005 ∷ []))))))))
 
-abbrev pub All : List Row → Type 0
-All [] = Unit {0}
-All (r ∷ rs) = Holds r × All rs
+abbrev pub AllHold : List Row → Type 0
+AllHold [] = Unit {0}
+AllHold (r ∷ rs) = Holds r × AllHold rs

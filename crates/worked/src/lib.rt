@@ -1,11 +1,11 @@
 //! Nine worked rows, in one table with one proof.
 #![tactic(auto)]
 
-ghost use Rattle.worked.specs.Rows.{All, table};
+ghost use Rattle.worked.specs.Rows.{AllHold, table};
 
 // What the definitions give for numbers that can be followed by hand. This function only carries the theorem.
 pub fn worked_rows() -> u8
-    ensures { All table }
+    ensures { AllHold table }
 {
     0
 }
