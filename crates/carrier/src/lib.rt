@@ -19,11 +19,12 @@ pub trait Carrier {
 
     ghost fits: { (x : Self) → length (waiting x) ≤ capacity x };
 
-    // What a carrier says besides: of itself before a message is posted, the message, and itself after it.
-    ghost posting: { Self → Message → Self → Type 0 };
+    // What a carrier says besides: of itself before a message is posted, the message, and itself after it. It need say
+    // nothing.
+    ghost posting: { Self → Message → Self → Type 0 } = { λ _ _ _. Unit {0} };
 
     // And of itself before a message is taken, the process, the pick, the message, and itself after it.
-    ghost taking: { Self → ℕ → ℕ → Message → Self → Type 0 };
+    ghost taking: { Self → ℕ → ℕ → Message → Self → Type 0 } = { λ _ _ _ _ _. Unit {0} };
 
     // How many more messages there is room for, at most 2^32 - 1.
     fn free(&self) -> u32

@@ -28,17 +28,13 @@ impl<C: Carrier> Tray<C> {
     }
 }
 
+// A tray says nothing of the order in which it takes messages.
 impl<C: Carrier> Carrier for Tray<C> {
     ghost waiting = { λ x. kept x.table.places ++ C.Carrier.waiting x.below };
 
     ghost capacity = { λ x. 8 + C.Carrier.capacity x.below };
 
     ghost fits = { λ x. both_fit x.table.places (C.Carrier.waiting x.below) (C.Carrier.capacity x.below) (C.Carrier.fits x.below) };
-
-    // A tray says nothing of the order in which it takes messages.
-    ghost posting = { λ _ _ _. Unit {0} };
-
-    ghost taking = { λ _ _ _ _ _. Unit {0} };
 
     fn free(&self) -> u32 {
         self.below.free().saturating_add(self.table.free())
