@@ -4,11 +4,10 @@ use Rattle.protocol.specs.declared.messages.Message.{Message}
 use Rattle.protocol.specs.declared.refusals.Refusal.{Refusal}
 use Rattle.protocol.specs.declared.votes.Side.{Side}
 use Rattle.plan.specs.declared.drafts.Line.{Line}
-use Rattle.carrier.specs.Posting.{Posts, none, more, Exchanges}
+use Rattle.carrier.specs.Posting.{Posts, none, more}
 use Rattle.memory.specs.Contents.{Held, with_serial, case_at}
 use Rattle.memory.specs.Places.{case_place}
-use Rattle.row.specs.Order.{TookAt, answer_at, left_at, picked}
-use Rattle.cases.specs.Steps.{round_at, step_at}
+use Rattle.row.specs.Order.{TookAt, left_at, picked}
 use Rattle.cases.specs.declared.steps.Step.{Step}
 use Rattle.rules.specs.Turns.{Turn, refusal, initials, moved, said, settled, ballots, reacted, replies}
 use Rattle.rules.specs.Runs.{Event, refused, announced, opened, forged, delivered, advanced, Coin, turn_of, Happens}
@@ -16,7 +15,7 @@ use Rattle.runs.specs.Performed.{answer_of, asked, Carried, Performed}
 use Rattle.runs.specs.declared.turns.Turn as runs
 use Rattle.runs.specs.declared.turns.Answer.{Answer}
 use Rattle.runs.specs.declared.turns.Answer.TheVariants.{Announced, Posted, Delivered, Advanced}
-use Rattle.desk.specs.Act.{Acted, acted, delivering, advancing, doing, acting_by, act}
+use Rattle.desk.specs.Act.{acted, delivering, advancing, doing, acting_by, act}
 
 alike : {r s : Result Answer Refusal} {h k : Held} {ws us : List Message} → r ≡ s → h ≡ k → ws ≡ us → acted r h ws ≡ acted s k us
 alike e f g = λ i. record { answer = e i; memory = f i; waiting = g i }

@@ -1,5 +1,5 @@
 -- Marks one by one, and the line of a draft. Assumes nothing.
-use Rattle.std.proofs.Common.{◌≡◌, ℕ, suc, ◌+◌, ◌^◌, ◌<◌, ◌≤◌, Bool, true, false, ltb, leb, List, [], ◌∷◌, length, get_or, drop, Some, None, Ok, Err, Option, Result, sym, refl, ap, ◌∙◌}
+use Rattle.std.proofs.Common.{◌≡◌, ℕ, suc, ◌+◌, ◌^◌, ◌<◌, ◌≤◌, Bool, true, false, List, length, get_or, drop, Some, None, Ok, Err, Option, Result, sym, refl, ap, ◌∙◌}
 use mathlib.Core.HLevel.{is_prop→PathP}
 use native.Mathlib.Bridge.{le_prop}
 use lib.Count.{ones}
@@ -14,7 +14,7 @@ use Rattle.plan.specs.declared.drafts.Line.{Line}
 use Rattle.protocol.specs.declared.messages.Message.{Message}
 use Rattle.memory.specs.Contents.{Held, cleared}
 use Rattle.line.specs.Opening.{open_refusal, Opened, NotOpened}
-use Rattle.desk.specs.Desk.{past, marking, lawful, line_if, line_of, Opening, opening, opens_with, opens_marked, opens_planned, opens}
+use Rattle.desk.specs.Desk.{past, marking, lawful, line_if, line_of, opening, opens_with, opens_marked, opens_planned, opens}
 
 -- one mark more of a list, while the draft's plan Q is the plan P
 module _ (P Q : Plan) (marks : ℕ) where

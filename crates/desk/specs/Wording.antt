@@ -1,5 +1,5 @@
 -- How an answer is written.
-use Rattle.std.specs.Prelude.{ℕ, Bool, cond, List, ◌++◌, codes, decimal}
+use Rattle.std.specs.Prelude.{ℕ, cond, List, ◌++◌, codes, decimal}
 use Rattle.protocol.specs.Refusals.{refusal_number}
 use Rattle.runs.specs.declared.turns.Answer.{Answer}
 use Rattle.runs.specs.declared.turns.Answer.TheVariants.{Announced, Posted, Delivered, Advanced}

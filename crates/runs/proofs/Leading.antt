@@ -5,7 +5,6 @@ use Rattle.std.proofs.lemmas.List.{take_more, take_all}
 use Rattle.protocol.specs.declared.messages.Message.{Message}
 use Rattle.plan.specs.declared.drafts.Line.{Line}
 use Rattle.memory.specs.Contents.{Held}
-use Rattle.rules.specs.Turns as rules
 use Rattle.rules.specs.Runs.{Event, Coin, Run, after, turn_of, Happens}
 use Rattle.rules.specs.Promises.{Luck}
 use Rattle.runs.specs.declared.turns.Turn.{Turn}

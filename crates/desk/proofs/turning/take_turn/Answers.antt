@@ -1,9 +1,7 @@
-use Rattle.std.proofs.Common.{◌≡◌, ℕ, Result, sym, refl, ap, ◌∙◌}
-use Rattle.protocol.specs.declared.refusals.Refusal.{Refusal}
+use Rattle.std.proofs.Common.{ℕ, ap, ◌∙◌}
 use Rattle.item.specs.Tags.{number_of}
 use Rattle.coin.specs.Sides.{word_side}
 use Rattle.memory.specs.Contents.{held}
-use Rattle.rules.specs.Turns.{Turn}
 use Rattle.runs.specs.Performed.{asked}
 use Rattle.desk.specs.Act.{act}
 use Rattle.desk.specs.Desk.{waiting_in, places_of, turns}

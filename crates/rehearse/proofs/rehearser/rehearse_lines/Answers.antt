@@ -1,4 +1,4 @@
-use Rattle.std.proofs.Common.{◌≡◌, ℕ, ◌+◌, ◌-◌, List, ◌++◌, length, take, drop, refl, ap, ◌∙◌, arith}
+use Rattle.std.proofs.Common.{ℕ, ◌+◌, ◌-◌, ◌++◌, take, drop, refl, ap, ◌∙◌, arith}
 use Rattle.text.specs.Shown.{shown}
 use Rattle.memory.specs.Contents.{held}
 use Rattle.desk.specs.Desk.{waiting_in, places_of, desk}
