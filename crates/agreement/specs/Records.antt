@@ -1,5 +1,5 @@
 -- What a process keeps of one broadcast, and what an arriving message makes of it.
-use Rattle.std.specs.Prelude.{ℕ, Bool, false, cond, leb, Some, None, Option, ◌==◌, nat_le}
+use Rattle.std.specs.Prelude.{ℕ, Bool, false, cond, Some, None, Option, ◌==◌, nat_le}
 use Rattle.protocol.specs.declared.messages.Step.{Step}
 use Rattle.protocol.specs.declared.messages.Step.TheVariants.{Initial, Echo, Ready}
 use Rattle.agreement.specs.Worlds.{World}
@@ -48,7 +48,7 @@ receive w o Initial k b r =
     }
 receive w o Echo k b r =
     let heard = hear r.echo k b in
-    let quorum = leb w.echo (support w heard b) in
+    let quorum = nat_le w.echo (support w heard b) in
     record {
       echoed = when quorum r.echoed b;
       readied = when quorum r.readied b;
@@ -58,7 +58,7 @@ receive w o Echo k b r =
     }
 receive w o Ready k b r =
     let heard = hear r.ready k b in
-    let quorum = leb w.ready (support w heard b) in
+    let quorum = nat_le w.ready (support w heard b) in
     record {
       echoed = when quorum r.echoed b;
       readied = when quorum r.readied b;

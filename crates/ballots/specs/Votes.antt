@@ -1,5 +1,5 @@
 -- Which ballots are valid, by counting. Rounds count from 0 here. Assumes nothing.
-use Rattle.std.specs.Prelude.{◌≡◌, ℕ, zero, suc, ◌+◌, ◌-◌, ◌*◌, ◌/◌, min, Bool, true, false, cond, ◌&&◌, ◌||◌, leb, Some, None, Option, nat_le, nat_lt}
+use Rattle.std.specs.Prelude.{◌≡◌, ℕ, zero, suc, ◌+◌, ◌-◌, ◌*◌, ◌/◌, min, Bool, true, false, cond, ◌&&◌, ◌||◌, Some, None, Option, nat_le, nat_lt}
 use Rattle.protocol.specs.Numbers.{ballot_number, ballot_of}
 use Rattle.protocol.specs.declared.votes.Ballot.{Ballot}
 use Rattle.protocol.specs.declared.votes.Ballot.TheVariants.{Keep, Release, ProposeKeep, ProposeRelease, Open}
@@ -12,7 +12,7 @@ use Rattle.ballots.specs.declared.tallies.Tally.{Tally}
 -- what a full set of m of the x can allow after a first round: which side can be ahead
 abbrev pub after_first : ℕ → Tally → Allowed
 after_first m x =
-    let full = leb m (x.keep + x.release) in
+    let full = nat_le m (x.keep + x.release) in
     record {
       keep = full && nat_le m (2 * min x.keep m);
       release = full && nat_lt m (2 * min x.release m);
@@ -24,7 +24,7 @@ after_first m x =
 -- after a second round: which side can have more than half of all n, and whether it can be that neither has
 abbrev pub after_second : ℕ → ℕ → Tally → Allowed
 after_second n m x =
-    let full = leb m (x.keep + x.release) in
+    let full = nat_le m (x.keep + x.release) in
     record {
       keep = false;
       release = false;
@@ -36,8 +36,8 @@ after_second n m x =
 -- after a third round: which side can be forced, and whether it can be that neither is
 abbrev pub after_third : ℕ → ℕ → Tally → Allowed
 after_third t m x =
-    let full = leb m (x.propose_keep + x.propose_release + x.«open») in
-    let tossed = leb m (min x.propose_keep t + min x.propose_release t + x.«open») in
+    let full = nat_le m (x.propose_keep + x.propose_release + x.«open») in
+    let tossed = nat_le m (min x.propose_keep t + min x.propose_release t + x.«open») in
     record {
       keep = full && nat_lt t (min x.propose_keep m) || tossed;
       release = full && nat_lt t (min x.propose_release m) || tossed;

@@ -18,7 +18,8 @@ const NOTHING: Allowed = Allowed {
 
 // By the ballots of a round, the first one being round 1.
 pub(crate) fn allowed_after(plan: &Plan, round: u64, tally: Tally) -> Allowed
-    requires { (1 ≤ round) × (Few tally) }
+    requires round { 1 ≤ round }
+    requires few { Few tally }
     ensures { result ≡ after plan.now.n plan.now.t (kind (round - 1)) tally }
 {
     let m = plan.n() - plan.t();

@@ -62,7 +62,8 @@ fn sifted_row(
     round: u64,
     allowed: Allowed,
 ) -> [Option<Ballot>; 16]
-    requires { (process < plan.now.n) × (1 ≤ round) }
+    requires process { process < plan.now.n }
+    requires round { 1 ≤ round }
     ensures { Holds (λ k. sifted allowed (ballots_at plan.now (held memory.now) process case k (round - 1))) result }
 {
     let mut row = [None; 16];

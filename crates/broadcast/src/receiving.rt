@@ -63,7 +63,8 @@ fn hear(bodies: &mut [Option<u64>], first: usize, plan: &Plan, message: &Message
 }
 
 fn count_saying(bodies: &[Option<u64>], first: usize, n: usize, body: u64) -> u8
-    requires { (n ≤ 16) × (first + n ≤ length bodies.now) }
+    requires few { n ≤ 16 }
+    requires room { first + n ≤ length bodies.now }
     ensures { result ≡ saying n first body bodies.now }
 {
     let mut count = 0;
@@ -85,7 +86,8 @@ fn turn_stage(
     count: u8,
     limits: Thresholds,
 ) -> Reaction
-    requires { (at < length records.old) × (limits.ready ≤ limits.accept) }
+    requires inside { at < length records.old }
+    requires ordered { limits.ready ≤ limits.accept }
     ensures stage { records.new ≡ put at (turn limits message.now count (slice_index_or records.old at silent).stage).next records.old }
     ensures reaction { result ≡ (turn limits message.now count (slice_index_or records.old at silent).stage).reaction }
 {

@@ -33,7 +33,7 @@ impl<'a> Carrier for Queue<'a> {
 
     ghost posting = { λ x m y. listed y.row ≡ listed x.row ++ (m ∷ []) };
 
-    ghost taking = { λ x process pick m y. TookAt process (0) (listed x.row) m (listed y.row) };
+    ghost taking = { λ x process pick m y. TookAt process 0 (listed x.row) m (listed y.row) };
 
     fn free(&self) -> u32 {
         self.row.free()

@@ -11,7 +11,8 @@ use protocol::{Ballot, Side};
 
 // By a set of ballots of a round, the first one being round 1.
 pub(crate) fn step_by(plan: &Plan, round: u64, tally: Tally) -> Step
-    requires { (1 ≤ round) × (Few tally) }
+    requires round { 1 ≤ round }
+    requires few { Few tally }
     ensures { result ≡ step_by plan.now.n plan.now.t (kind (round - 1)) (amount tally) }
 {
     match round % 3 {

@@ -1,5 +1,5 @@
 -- What a memory holds, and what its places hold after a change. Assumes nothing.
-use Rattle.std.specs.Prelude.{ℕ, zero, suc, List, [], ◌∷◌, get_or, Some, None, Option, slice_index, slice_index_or, slice_set}
+use Rattle.std.specs.Prelude.{ℕ, zero, suc, List, [], ◌∷◌, Some, None, Option, slice_index, slice_index_or, slice_set}
 use Rattle.plan.specs.declared.plans.Plan.{Plan}
 use Rattle.plan.specs.Plans.{needs_of}
 use Rattle.memory.specs.declared.memories.Memory.{Memory}
@@ -42,7 +42,7 @@ cleared plan h =
     }
 
 abbrev pub stage_at : Held → ℕ → Stage
-stage_at h at = (get_or h.broadcasts at silent).stage
+stage_at h at = (slice_index_or h.broadcasts at silent).stage
 
 -- the body that was accepted, if one was
 abbrev pub accepted_body : Stage → Option ℕ

@@ -35,7 +35,8 @@ pub fn place_of(plan: &Plan, process: u64, subject: Subject) -> Option<Place>
 }
 
 fn locate(plan: &Plan, process: u64, subject: Subject) -> Place
-    requires { (process < plan.now.n) × (within plan.now subject ≡ true) }
+    requires process { process < plan.now.n }
+    requires subject { within plan.now subject ≡ true }
     ensures { result ≡ placed plan.now (place plan.now process subject) }
 {
     let n = plan.n();

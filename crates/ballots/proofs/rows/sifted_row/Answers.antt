@@ -13,7 +13,7 @@ loop-originator-init c =
 pub loop-originator-preserved : goal.loop-originator-preserved
 loop-originator-preserved c =
     filled_more c.loop-originator.originator _ c.loop-originator.row c.sift.result (omega (arith, c.args.plan.now.few)) c.loop-originator.invariant
-    (c.sift.ensures ∙ ap (sifted c.args.allowed) (c.accepted_body-body.ensures ∙ body_at_lem c.args.plan.now (held c.args.memory.now) c.args.process c.args.case c.loop-originator.originator c.args.round c.requires.1))
+    (c.sift.ensures ∙ ap (sifted c.args.allowed) (c.accepted_body-body.ensures ∙ body_at_lem c.args.plan.now (held c.args.memory.now) c.args.process c.args.case c.loop-originator.originator c.args.round c.requires.round))
 
 pub returns : goal.returns
 returns c =

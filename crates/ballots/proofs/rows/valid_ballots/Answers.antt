@@ -12,7 +12,7 @@ pub loop-before-init : goal.loop-before-init
 loop-before-init c = first_row c.args.plan.now (held c.args.memory.now) c.args.process c.args.case _ c.sifted_row-row.ensures
 
 pub allowed_after-allowed-requires : goal.allowed_after-allowed-requires
-allowed_after-allowed-requires c = (omega arith, subst Few (sym c.count.ensures) (counts_few (cell c.loop-before.row)))
+allowed_after-allowed-requires c = record { round = omega arith; few = subst Few (sym c.count.ensures) (counts_few (cell c.loop-before.row)) }
 
 pub loop-before-preserved : goal.loop-before-preserved
 loop-before-preserved c =

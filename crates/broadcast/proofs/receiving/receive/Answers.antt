@@ -27,10 +27,11 @@ turn_stage-requires c =
     let m = c.args.message.now in
     let h = held c.args.memory.now in
     let known = c.in-Some.ensures in
-    let a = admitted c.args.plan.now c.args.process m h c.in-Some.place _ _ (omega arith) c.is_enough.ensures c.if-not-is_enough.false c.subject.ensures known.value known.laid in (
-      omega (arith, a.at, ap (λ (x : Held). length x.broadcasts) c.listen-count.ensures.held),
-      omega (arith, c.thresholds.ensures.sound.enough),
-    )
+    let a = admitted c.args.plan.now c.args.process m h c.in-Some.place _ _ (omega arith) c.is_enough.ensures c.if-not-is_enough.false c.subject.ensures known.value known.laid in
+    record {
+      inside = omega (arith, a.at, ap (λ (x : Held). length x.broadcasts) c.listen-count.ensures.held);
+      ordered = omega (arith, c.thresholds.ensures.sound.enough);
+    }
 
 pub returns : goal.returns
 returns c =

@@ -21,10 +21,11 @@ step_by-requires c =
     let h = held c.args.memory.now in
     let i = c.args.process in
     let k = c.args.case in
-    let round = at_round plan h i k c.in_ok-place.place c.from-round.result c.case_record.result c.in_ok-place.ensures.value c.case_record.ensures c.from-round.ensures in (
-      opened plan h i k _ c.set_size-m.result c.valid_ballots-row.result round c.set_size-m.ensures c.valid_ballots-row.ensures.value (omega arith),
-      subst Few (sym c.count.ensures) (counts_few (cell c.choose_lowest.result)),
-    )
+    let round = at_round plan h i k c.in_ok-place.place c.from-round.result c.case_record.result c.in_ok-place.ensures.value c.case_record.ensures c.from-round.ensures in
+    record {
+      round = opened plan h i k _ c.set_size-m.result c.valid_ballots-row.result round c.set_size-m.ensures c.valid_ballots-row.ensures.value (omega arith);
+      few = subst Few (sym c.count.ensures) (counts_few (cell c.choose_lowest.result));
+    }
 
 pub returns : goal.returns
 returns c =

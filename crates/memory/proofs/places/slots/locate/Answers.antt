@@ -10,7 +10,7 @@ at c = (c.args.process * c.n-n.result + c.originator.result) * (c.serials.result
 few : (c : goal.After-number_of-number) → at c ≤ 106496
 few c =
     let same : at c ≡ place c.args.plan.now c.args.process c.args.subject = cc in
-    omega (arith, same, inside c.args.plan.now c.args.process c.args.subject c.requires.0 c.requires.1, records_few c.args.plan.now)
+    omega (arith, same, inside c.args.plan.now c.args.process c.args.subject c.requires.process c.requires.subject, records_few c.args.plan.now)
 
 row : (c : goal.After-number_of-number) → 2 * c.n-n.result * at c ≤ 32 * 106496
 row c = mul-le (2 * c.n-n.result) (at c) 32 106496 (omega (arith, c.n-n.ensures, c.args.plan.now.few)) (few c)
