@@ -27,7 +27,7 @@ abbrev pub Quorum : World → Rec → ℕ → Type 0
 Quorum w r b = (w.echo ≤ support w r.echo b) ⊎ (w.ready ≤ support w r.ready b)
 
 -- a record has done what it heard enough for, in order
-pub record Caught-up (w : World) (r : Rec) : Type 0 where
+pub record CaughtUp (w : World) (r : Rec) : Type 0 where
   pub readies : (b : ℕ) → Quorum w r b → option_is_some r.readied ≡ true
   pub accepts : (b : ℕ) → w.accept ≤ support w r.ready b → option_is_some r.accepted ≡ true
   pub ready_first : option_is_some r.accepted ≡ true → option_is_some r.readied ≡ true
@@ -43,7 +43,7 @@ pub record Moves (w : World) (o : ℕ) (M : Step → ℕ → ℕ → Type 0) (r 
   pub echoed_from : (c : ℕ) → next.echoed ≡ Some c → (r.echoed ≡ Some c) ⊎ (M Initial o c ⊎ Quorum w next c)
   pub readied_from : (c : ℕ) → next.readied ≡ Some c → (r.readied ≡ Some c) ⊎ Quorum w next c
   pub accepted_from : (c : ℕ) → next.accepted ≡ Some c → (r.accepted ≡ Some c) ⊎ (w.accept ≤ support w next.ready c)
-  pub caught_up : Caught-up w r → Caught-up w next
+  pub caught_up : CaughtUp w r → CaughtUp w next
 
 pub stands : (w : World) (o : ℕ) (M : Step → ℕ → ℕ → Type 0) (r : Rec) → Moves w o M r r
 stands w o M r = record {

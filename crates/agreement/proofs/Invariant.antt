@@ -10,7 +10,7 @@ use Rattle.agreement.specs.Records.{support}
 use Rattle.agreement.specs.Runs.{State}
 use Rattle.agreement.proofs.Bodies.{none_some}
 use Rattle.agreement.proofs.Weights.{backing, support_backed, backing_grows, backer, supporter, quorum_heavy}
-use Rattle.agreement.proofs.Handler.{Moves, Caught-up, Quorum, heard, settled}
+use Rattle.agreement.proofs.Handler.{Moves, CaughtUp, Quorum, heard, settled}
 use Rattle.agreement.proofs.Waiting.{waits}
 
 -- what process k has sent to all
@@ -42,7 +42,7 @@ pub record Inv (w : World) (s : Subject) (st : State) : Type 0 where
   pub accepted : (i b : ℕ) → Correct w i → (st.recs i s).accepted ≡ Some b → w.accept ≤ backing w (readies st s) b
   -- What is echoed of a correct originator is what it told.
   pub echoed : (i b : ℕ) → Correct w (originator_of s) → Correct w i → (st.recs i s).echoed ≡ Some b → st.said s ≡ Some b
-  pub caught_up : (i : ℕ) → Correct w i → Caught-up w (st.recs i s)
+  pub caught_up : (i : ℕ) → Correct w i → CaughtUp w (st.recs i s)
   -- What a correct process sent to another waits, or was heard, or is not needed any more.
   pub sent : (k i : ℕ) (step : Step) (b : ℕ) → Correct w k → Correct w i → says st s k step ≡ Some b → waits st.waiting k i step s b ⊎ (settled (st.recs i s) step k ≡ true)
 

@@ -15,14 +15,14 @@ use Rattle.agreement.specs.Runs.{State, Turn, tell, forge, drop, deliver, Run, b
 use Rattle.agreement.specs.Broadcasts.{Broadcasts, Lasts}
 use Rattle.agreement.proofs.Bodies.{none_some, when_stays}
 use Rattle.agreement.proofs.Weights.{quorum_heavy}
-use Rattle.agreement.proofs.Handler.{Caught-up, heard}
+use Rattle.agreement.proofs.Handler.{CaughtUp, heard}
 use Rattle.agreement.proofs.Waiting.{waits_none}
 use Rattle.agreement.proofs.Invariant.{Inv, says, tells, kept}
 use Rattle.agreement.proofs.Results.{accept_alike, accept_told, accept_total, told_accepted}
 use Rattle.agreement.proofs.Turns.{seen}
 
 module _ (w : World) (law : Lawful w) where
-  blank_caught_up : Caught-up w blank
+  blank_caught_up : CaughtUp w blank
   unfolding support
   blank_caught_up = record {
     readies = λ b q. absurd (⊎_elim (λ (e : w.echo ≤ w.weight (λ _. false)). omega (arith, law.measure.empty, quorum_heavy w law)) (λ (e : w.ready ≤ w.weight (λ _. false)). omega (arith, law.measure.empty, law.sound.one_correct)) q);

@@ -65,7 +65,7 @@ module _ (n t : ℕ) (G : Accepted) (r : ℕ) (g : ℕ → Option Ballot) (exact
   -- what a set of the round has, by the accepted bodies and by the valid ballots
   said_alike : (S : ℕ → Bool) → ((k : ℕ) → k < n → S k ≡ true → (b : Ballot) × (g k ≡ Some b)) → (b : Ballot) → below n (λ k. says b (only S g k)) ≡ tally n G r S b
   unfolding tally
-  said_alike S Has-one b = below_alike n _ _ (λ k l. go k l (S k) refl)
+  said_alike S HasOne b = below_alike n _ _ (λ k l. go k l (S k) refl)
     where
       valid : (k : ℕ) (c : Ballot) → g k ≡ Some c → G k r ≡ Some (ballot_number c)
       valid k c e = held n t G r k (ballot_number c) ((exact k).sound c e)
@@ -73,14 +73,14 @@ module _ (n t : ℕ) (G : Accepted) (r : ℕ) (g : ℕ → Option Ballot) (exact
       go : (k : ℕ) → k < n → (s : Bool) → S k ≡ s → says b (cond s (g k) None) ≡ (s && has (G k r) (ballot_number b))
       go k l false e = refl
       go k l true e =
-          let m = Has-one k l e in
+          let m = HasOne k l e in
           ap (says b) m.1 ∙ sym (ap (λ o. has o (ballot_number b)) (valid k m.0 m.1))
 
   pub amount_alike : (S : ℕ → Bool) → ((k : ℕ) → k < n → S k ≡ true → (b : Ballot) × (g k ≡ Some b)) → amount (counts n (only S g)) ≡ tally n G r S
-  amount_alike S Has-one = λ i b. (counts_amount n (only S g) b ∙ said_alike S Has-one b) i
+  amount_alike S HasOne = λ i b. (counts_amount n (only S g) b ∙ said_alike S HasOne b) i
 
   size_alike : (S : ℕ → Bool) → ((k : ℕ) → k < n → S k ≡ true → (b : Ballot) × (g k ≡ Some b)) → total (counts n (only S g)) ≡ below n S
-  size_alike S Has-one = counts_all n (only S g) ∙ below_alike n _ _ (λ k l. some_only (S k) (g k) (Has-one k l))
+  size_alike S HasOne = counts_all n (only S g) ∙ below_alike n _ _ (λ k l. some_only (S k) (g k) (HasOne k l))
 
   pub quorum_some : (S : ℕ → Bool) → Quorum n t G r S → (k : ℕ) → k < n → S k ≡ true → (b : Ballot) × (g k ≡ Some b)
   quorum_some S full k l e = let m = full.member k l e in let c = (exact k).full m.0 m.1 in (c.0, c.2)

@@ -39,9 +39,9 @@ pub admitted :
     → Some p ≡ place_of plan process s
     → Laid plan
     → Admitted plan process m h p
-admitted plan process m h p s all from is-enough enough-so subject_is e laid =
+admitted plan process m h p s all from is_enough enough_so subject_is e laid =
     let f = found plan process m.subject p (e ∙ ap (λ (z : Subject). place_of plan process z) subject_is) in
-    let fits = sym is-enough ∙ enough-so in
+    let fits = sym is_enough ∙ enough_so in
     let k = place plan process m.subject in
     let size = sizes plan h fits in
     let inside = laid.inside process m.subject (ltb-true process plan.n f.below) f.inside in

@@ -24,10 +24,10 @@ module _ (plan : Plan) (p : Place) (m : Message) (h : Held) where
   accepted_stays b e = ap at_stage e
 
   heard_is : (s : Stage) → ((b : ℕ) → s ≡ Accepted b → ⊥) → listened p m m.step h.bodies ≡ heard p m s h.bodies
-  heard_is Silent not-accepted = refl
-  heard_is Echoed not-accepted = refl
-  heard_is Readied not-accepted = refl
-  heard_is (Accepted b) not-accepted = absurd (not-accepted b refl)
+  heard_is Silent not_accepted = refl
+  heard_is Echoed not_accepted = refl
+  heard_is Readied not_accepted = refl
+  heard_is (Accepted b) not_accepted = absurd (not_accepted b refl)
 
   -- the code's way: a count and a memory that was changed by hearing
   pub settles :
@@ -38,7 +38,7 @@ module _ (plan : Plan) (p : Place) (m : Message) (h : Held) where
       → count ≡ agreeing plan.n p m m.step after.bodies
       → settled limits p m count after ≡ handled plan p m h
   unfolding handled
-  settles limits count after not-accepted same heard-so counted =
-      let all = heard-so ∙ ap (λ xs. with_bodies xs h) (heard_is (stage_at h p.«record») not-accepted) in
+  settles limits count after not_accepted same heard_so counted =
+      let all = heard_so ∙ ap (λ xs. with_bodies xs h) (heard_is (stage_at h p.«record») not_accepted) in
       (λ i. settled (same i) p m (counted i) after)
       ∙ ap (λ (x : Held). settled (thresholds_of plan.n plan.t) p m (agreeing plan.n p m m.step x.bodies) x) all

@@ -66,23 +66,23 @@ module _ (plan : Plan) (h : Held) (i c : ℕ) where
   valid_voter e k b v = ap is_some ((voters_exact e k).full b v).2
 
   -- the rows that the code makes
-  module _ (row : List (Option Ballot)) (held-row : Holds (valid_at plan h i c r) row) where
+  module _ (row : List (Option Ballot)) (held_row : Holds (valid_at plan h i c r) row) where
     row_voters : below 16 (stands (cell row)) ≡ below plan.n (voters plan h i c)
-    row_voters = ap (λ (g : ℕ → Option Ballot). below 16 (stands g)) (holds_is _ row held-row) ∙ below_past 16 plan.n (voters plan h i c) plan.few (λ k l. ap is_some (behind k l))
+    row_voters = ap (λ (g : ℕ → Option Ballot). below 16 (stands g)) (holds_is _ row held_row) ∙ below_past 16 plan.n (voters plan h i c) plan.few (λ k l. ap is_some (behind k l))
 
     row_counts : (picked : List (Option Ballot)) → covers plan h i c r ≡ true → Holds (only (lowest (plan.n - plan.t) (stands (cell row))) (cell row)) picked → amount (counts 16 (cell picked)) ≡ chosen_counts plan h i c
     unfolding lowest
     row_counts picked e x =
         let S = chosen plan h i c in
         let g = valid_at plan h i c r in
-        ap (λ (f : ℕ → Option Ballot). amount (counts 16 f)) (holds_is _ picked x ∙ ap (λ (f : ℕ → Option Ballot). only (lowest (plan.n - plan.t) (stands f)) f) (holds_is _ row held-row))
+        ap (λ (f : ℕ → Option Ballot). amount (counts 16 f)) (holds_is _ picked x ∙ ap (λ (f : ℕ → Option Ballot). only (lowest (plan.n - plan.t) (stands f)) f) (holds_is _ row held_row))
         ∙ ap amount (counts_past 16 plan.n (only S g) plan.few (λ k l. none_chosen (S k) (g k) (behind k l)))
         ∙ amount_alike plan.n plan.t G (r - 1) g (voters_exact e) S (λ k l m. some_stands (g k) (and_parts (voters plan h i c k) _ m).0)
 
   -- the code's way: a round that was read, a row, and the ballots that were chosen from it
-  module _ (q m : ℕ) (row : List (Option Ballot)) (now : q ≡ r) (size : m ≡ plan.n - plan.t) (held-row : Holds (valid_at plan h i c q) row) where
+  module _ (q m : ℕ) (row : List (Option Ballot)) (now : q ≡ r) (size : m ≡ plan.n - plan.t) (held_row : Holds (valid_at plan h i c q) row) where
     here : Holds (valid_at plan h i c r) row
-    here = subst (λ (p : ℕ). Holds (valid_at plan h i c p) row) now held-row
+    here = subst (λ (p : ℕ). Holds (valid_at plan h i c p) row) now held_row
 
     pub stays : below 16 (stands (cell row)) < m → None ≡ step_at plan h i c
     stays l = sym (cond-false (may_advance plan h i c) _ None (and_right (covers plan h i c r) _ (lt-leb _ _ (omega (arith, row_voters row here)))))
@@ -101,8 +101,8 @@ module _ (plan : Plan) (h : Held) (i c : ℕ) where
         → s ≡ step_by plan.n plan.t (kind (q - 1)) (amount x)
         → Some s ≡ step_at plan h i c
     goes picked x s l y e f =
-        let y-here = subst (λ (p : ℕ). Holds (only (lowest p (stands (cell row))) (cell row)) picked) size y in
-        let counted = ap amount e ∙ row_counts row here picked (many_covered (many l)) y-here in
+        let y_here = subst (λ (p : ℕ). Holds (only (lowest p (stands (cell row))) (cell row)) picked) size y in
+        let counted = ap amount e ∙ row_counts row here picked (many_covered (many l)) y_here in
         ap Some (f ∙ (λ j. step_by plan.n plan.t (kind (now j - 1)) (counted j)))
         ∙ sym (cond-true (may_advance plan h i c) _ None (and_from _ _ (many_covered (many l)) (le-leb _ _ (many l))))
 

@@ -117,15 +117,15 @@ module _ (n t : ℕ) (A B : Accepted) (part : Part A B) where
       (j.0, (all_kept n t A B part q).quorums j.0 j.1, subst (λ count. Allows n t (kind q) count b) (same_tally q j.0 j.1) j.2)
 
   pub left_grows : (coin : Side) (q : ℕ) (next after : Option ℕ) (forced decided forced₁ decided₁ : Side → Type 0) → ((b : ℕ) → after ≡ Some b → next ≡ Some b) → ((v : Side) → forced₁ v → forced v) → ((v : Side) → forced v → forced₁ v) → ((v : Side) → decided₁ v → decided v) → ((v : Side) → decided v → decided₁ v) → Left n t A coin q next forced decided → Left n t B coin q after forced₁ decided₁
-  left_grows coin q next after forced decided forced₁ decided₁ same f-in f-out d-in d-out l =
+  left_grows coin q next after forced decided forced₁ decided₁ same f_in f_out d_in d_out l =
       let counts = same_tally q l.by l.quorum in
       record {
         by = l.by;
         quorum = (all_kept n t A B part q).quorums l.by l.quorum;
         tossed = λ e b x. subst (λ count. Tossed t count coin b) counts (l.tossed e b (same b x));
-        forces = λ v x. subst (λ count. Forces t count v) counts (l.forces v (f-in v x));
-        forced_some = λ e v x. let u = l.forced_some e v (subst (λ count. Forces t count v) (sym counts) x) in (u.0, f-out u.0 u.1);
-        third = λ v x. l.third v (d-in v x);
-        decides = λ v x. subst (λ count. Decides t count v) counts (l.decides v (d-in v x));
-        decided_some = λ e v x. let u = l.decided_some e v (subst (λ count. Decides t count v) (sym counts) x) in (u.0, d-out u.0 u.1);
+        forces = λ v x. subst (λ count. Forces t count v) counts (l.forces v (f_in v x));
+        forced_some = λ e v x. let u = l.forced_some e v (subst (λ count. Forces t count v) (sym counts) x) in (u.0, f_out u.0 u.1);
+        third = λ v x. l.third v (d_in v x);
+        decides = λ v x. subst (λ count. Decides t count v) counts (l.decides v (d_in v x));
+        decided_some = λ e v x. let u = l.decided_some e v (subst (λ count. Decides t count v) (sym counts) x) in (u.0, d_out u.0 u.1);
       }

@@ -37,7 +37,7 @@ module _ (n t : ℕ) (G : Accepted) where
 
   module _ (r : ℕ) (at_third : kind r ≡ Third) (S : ℕ → Bool) (v : Side) (full : Quorum n t G r S) (decides : Decides t (tally n G r S) v) where
     forced_by : (T : ℕ → Bool) → Quorum n t G r T → Forces t (tally n G r T) v
-    forced_by T other-full = omega (arith, tally_met n t G r T other-full S (proposal v))
+    forced_by T other_full = omega (arith, tally_met n t G r T other_full S (proposal v))
 
     locked_next : Agreed n t G (suc r) v
     locked_next =

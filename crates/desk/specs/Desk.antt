@@ -13,7 +13,7 @@ use Rattle.plan.specs.declared.drafts.Line.{Line}
 use Rattle.item.specs.Tags.{tagged, number_of}
 use Rattle.item.specs.declared.tags.Tag.{Tag}
 use Rattle.coin.specs.Sides.{word_side}
-use Rattle.form.specs.Marks.{listed as marksOf}
+use Rattle.form.specs.Marks.{listed as marks_of}
 use Rattle.form.specs.declared.forms.Form.{Form}
 use Rattle.form.specs.declared.forms.Form.TheVariants as form
 use Rattle.memory.specs.Contents.{Held, cleared}
@@ -163,7 +163,7 @@ turns_at capacity None h ws f = done (Refused LineOutOfPlace) (desk None h ws)
 
 -- what a form does at a desk with a basket of so many places
 abbrev pub acts : ℕ → Desk → Form → Done
-acts capacity d (form.Line n t ms) = opens_at d.line d.memory d.waiting n t (marksOf ms)
+acts capacity d (form.Line n t ms) = opens_at d.line d.memory d.waiting n t (marks_of ms)
 acts capacity d (form.Announce c t) = turns_at capacity d.line d.memory d.waiting (form.Announce c t)
 acts capacity d (form.Open c k v) = turns_at capacity d.line d.memory d.waiting (form.Open c k v)
 acts capacity d (form.Forge f c st su b) = turns_at capacity d.line d.memory d.waiting (form.Forge f c st su b)

@@ -1,6 +1,6 @@
 // Acting on a form.
 ghost use Rattle.std.specs.Prelude.{◌≡◌};
-ghost use Rattle.form.specs.Marks.{listed as marksOf};
+ghost use Rattle.form.specs.Marks.{listed as marks_of};
 ghost use Rattle.memory.specs.Contents.{held};
 ghost use Rattle.desk.specs.Desk.{waiting_in, places_of, answered as said, desk, done, opens_at, turns_at, acts};
 
@@ -32,7 +32,7 @@ fn open_first(
     tolerate: u64,
     strange: &Marks,
 ) -> Said
-    ensures { done result (desk line.new (held memory.new) (waiting_in basket.now)) ≡ opens_at line.old (held memory.old) (waiting_in basket.now) counters tolerate (marksOf strange.now) }
+    ensures { done result (desk line.new (held memory.new) (waiting_in basket.now)) ≡ opens_at line.old (held memory.old) (waiting_in basket.now) counters tolerate (marks_of strange.now) }
 {
     if line.is_some() {
         return Said::Refused(Refusal::LineOutOfPlace);

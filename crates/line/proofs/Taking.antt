@@ -54,7 +54,7 @@ module _ (line : Line) (h : Held) (i pick : ℕ) (m : Message) (ws rest : List M
       → d.posted ≡ length (replies line.plan.n m x.reaction)
       → d.accepted ≡ x.reaction.accepted
       → Took line (capacity before) h ws posting taking i pick d before next (waiting after) after
-  took {C} {waiting} {capacity} {posting} {taking} before mid after d next x rest-is taken allowed does memory sent counted answer =
+  took {C} {waiting} {capacity} {posting} {taking} before mid after d next x rest_is taken allowed does memory sent counted answer =
       let n = line.plan.n in
       record {
         message = m;
@@ -69,7 +69,7 @@ module _ (line : Line) (h : Held) (i pick : ℕ) (m : Message) (ws rest : List M
                     memory = memory ∙ ap (λ (y : Outcome). y.held) (sym does);
                     carrier =
                         subst (λ (y : Outcome). Same (waiting after) (replies n m y.reaction ++ rest)) (sym does)
-                        (subst (λ ys. Same (waiting after) (replies n m x.reaction ++ ys)) rest-is sent.same);
+                        (subst (λ ys. Same (waiting after) (replies n m x.reaction ++ ys)) rest_is sent.same);
                     counted = counted ∙ ap (λ (y : Outcome). length (replies n m y.reaction)) (sym does);
                   };
               answer = answer ∙ ap (λ (y : Outcome). y.reaction.accepted) (sym does);

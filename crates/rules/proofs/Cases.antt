@@ -52,10 +52,10 @@ same_tale es i c = record { advance_in = λ r f x t. t; advance_out = λ r f x t
 
 -- an event that tells nothing of the case
 pub untold : (e : Event) (es : List Event) (i c : ℕ) → ((r : ℕ) (f x : Option Side) → Advancing i c r f x e → ⊥) → ((v : Side) → Opening i c v e → ⊥) → decision_of (e ∷ es) i c ≡ decision_of es i c → Tale es (e ∷ es) i c
-untold e es i c no-advance no-open same = record {
-  advance_in = λ r f x t. ⊎_elim (λ z. absurd (no-advance r f x z)) (λ z. z) t;
+untold e es i c no_advance no_open same = record {
+  advance_in = λ r f x t. ⊎_elim (λ z. absurd (no_advance r f x z)) (λ z. z) t;
   advance_out = λ r f x t. inr t;
-  open_in = λ v t. ⊎_elim (λ z. absurd (no-open v z)) (λ z. z) t;
+  open_in = λ v t. ⊎_elim (λ z. absurd (no_open v z)) (λ z. z) t;
   open_out = λ v t. inr t;
   decision = same;
 }
@@ -102,7 +102,7 @@ module _ (line : Line) (coin : Coin) (es : List Event) (h : Held) (st : State) (
   }
 
   -- the process opens the case
-  module _ (v posted : ℕ) (next : Held) (now : State) (at : round_at line.plan h i c ≡ 0) (round : round_at line.plan next i c ≡ 1) (decision : (case_at next (case_place line.plan i c)).decision ≡ (case_at h (case_place line.plan i c)).decision) (vote-is : v ≤ 1) (here : now.said (Ballot i c 1) ≡ Some v) (same : (q : ℕ) → now.said (Ballot i c (suc (suc q))) ≡ st.said (Ballot i c (suc (suc q)))) where
+  module _ (v posted : ℕ) (next : Held) (now : State) (at : round_at line.plan h i c ≡ 0) (round : round_at line.plan next i c ≡ 1) (decision : (case_at next (case_place line.plan i c)).decision ≡ (case_at h (case_place line.plan i c)).decision) (vote_is : v ≤ 1) (here : now.said (Ballot i c 1) ≡ Some v) (same : (q : ℕ) → now.said (Ballot i c (suc (suc q))) ≡ st.said (Ballot i c (suc (suc q)))) where
     pub case_opened : CaseShown line coin (opened i c v posted ∷ es) next now i c
     case_opened = record {
       unsaid = later;
@@ -120,7 +120,7 @@ module _ (line : Line) (coin : Coin) (es : List Event) (h : Held) (st : State) (
         later (suc q) le = same q ∙ shown.unsaid (suc q) (omega (arith, at))
 
         first : (q : ℕ) → q < round_at line.plan next i c → q < 3 * line.plan.phases → (b : ℕ) × (now.said (Ballot i c (suc q)) ≡ Some b) × Justified n t (ballots_at line.plan next i c) q b
-        first zero lt below = let u = side_of v vote-is in (v, here, (u.0, u.1 ∙ sym (vote_number u.0)))
+        first zero lt below = let u = side_of v vote_is in (v, here, (u.0, u.1 ∙ sym (vote_number u.0)))
         first (suc q) lt below = absurd (omega (arith, round))
 
   -- the process advances from round q + 1 by a set S

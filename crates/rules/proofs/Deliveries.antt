@@ -133,15 +133,15 @@ module _ (line : Line) (h : Held) (large : enough line.plan h ≡ true) (m : Mes
         }
 
     keeps_elsewhere : (j : ℕ) (u : Subject) → j < line.plan.n → within line.plan u ≡ true → place line.plan j u ≢ q → Keeps line landed j u (recs j u)
-    keeps_elsewhere j u lt within-u apart =
-        let k = keeps j u lt within-u in
+    keeps_elsewhere j u lt within_u apart =
+        let k = keeps j u lt within_u in
         record {
           stage = subst (λ x. Shown x (recs j u).echoed (recs j u).readied (recs j u).accepted) (sym (ap (λ (r : BroadcastRecord). r.stage) (put_elsewhere q h.broadcasts turned.next (place line.plan j u) apart))) k.stage;
           rows = heard_rows line m known stage q (place line.plan j u) apart h.bodies (recs j u).echo (recs j u).ready k.rows;
         }
 
     pub keeps_landed : (j : ℕ) (u : Subject) → j < line.plan.n → within line.plan u ≡ true → Keeps line landed j u (delivered (world_of line) m recs j u)
-    keeps_landed j u lt within-u =
+    keeps_landed j u lt within_u =
         cond_both (eqb j m.addressee && same_subject u m.subject) (made u (recs j u)) (recs j u) (Keeps line landed j u) here there
       where
         here : (eqb j m.addressee && same_subject u m.subject) ≡ true → Keeps line landed j u (made u (recs j u))
@@ -150,8 +150,8 @@ module _ (line : Line) (h : Held) (large : enough line.plan h ≡ true) (m : Mes
             subst₂ (λ k v. Keeps line landed k v (made v (recs k v))) (sym (eqb-true _ _ both.0)) (sym (same_subject_true u m.subject both.1)) keeps_here
 
         there : (eqb j m.addressee && same_subject u m.subject) ≡ false → Keeps line landed j u (recs j u)
-        there e = keeps_elsewhere j u lt within-u (λ z.
-            let same = (laid line.plan).apart j m.addressee u m.subject lt to within-u inside z in
+        there e = keeps_elsewhere j u lt within_u (λ z.
+            let same = (laid line.plan).apart j m.addressee u m.subject lt to within_u inside z in
             both_ways _ e (and_from _ _ (eq-eqb _ _ same.0) (subst (λ v. same_subject u v ≡ true) same.1 (subject_same u))))
 
     pub here_is : delivered (world_of line) m recs m.addressee m.subject ≡ made m.subject old

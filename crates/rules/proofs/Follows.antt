@@ -37,5 +37,5 @@ module _ (line : Line) (capacity : ℕ) (coin : Coin) (es : List Event) (h : Hel
 
   -- nothing is told of cases
   pub still : (e : Event) (next : Held) (now : State) → ((j d r : ℕ) (f x : Option Side) → Advancing j d r f x e → ⊥) → ((j d : ℕ) (v : Side) → Opening j d v e → ⊥) → ((j d : ℕ) → decision_of (e ∷ es) j d ≡ decision_of es j d) → next.cases ≡ h.cases → ((j d q : ℕ) → now.said (Ballot j d q) ≡ st.said (Ballot j d q)) → ((j d : ℕ) → j < line.plan.n → Part (ballots_at line.plan h j d) (ballots_at line.plan next j d)) → CasesShown line coin (e ∷ es) next now
-  still e next now no-advance no-open undecided same said part =
-      all_carried line coin es h st shows.cases (e ∷ es) next now (λ j d. untold e es j d (no-advance j d) (no-open j d) (undecided j d)) (λ k. ap (λ (xs : List CaseRecord). (get_or xs k unopened).round) same) (λ k. ap (λ (xs : List CaseRecord). (get_or xs k unopened).decision) same) said part
+  still e next now no_advance no_open undecided same said part =
+      all_carried line coin es h st shows.cases (e ∷ es) next now (λ j d. untold e es j d (no_advance j d) (no_open j d) (undecided j d)) (λ k. ap (λ (xs : List CaseRecord). (get_or xs k unopened).round) same) (λ k. ap (λ (xs : List CaseRecord). (get_or xs k unopened).decision) same) said part

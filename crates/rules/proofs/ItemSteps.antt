@@ -96,9 +96,9 @@ module _ (line : Line) (capacity : ℕ) (coin : Coin) (es : List Event) (h : Hel
     fresh_next j l below used =
         ⊎_elim (λ (t : (eqb j i && eqb l k) ≡ true).
         let same = and_parts _ _ t in
-        let j-is = eqb-true j i same.0 in
-        let l-is = eqb-true l k same.1 in
-        absurd (omega (arith, ap (λ (x : ℕ). serial_at later x) j-is, get_or-set_same h.serials i (k + 1) 0 here)))
+        let j_is = eqb-true j i same.0 in
+        let l_is = eqb-true l k same.1 in
+        absurd (omega (arith, ap (λ (x : ℕ). serial_at later x) j_is, get_or-set_same h.serials i (k + 1) 0 here)))
         (λ (t : (eqb j i && eqb l k) ≡ false). cond-false _ _ _ t ∙ shows.mirrors.fresh j l below (omega (arith, grown j)))
         (cases_Bool (eqb j i && eqb l k))
 

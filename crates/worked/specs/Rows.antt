@@ -15,7 +15,7 @@ pub data Row : Type 0 where
   -- n and t have the thresholds echo, ready and accept
   sheet : (n t echo ready accept : ℕ) → Row
   -- by so many keeps, releases, proposals to keep and to release, and open ballots, a process says next, is forced and decides
-  step : (n t : ℕ) (round : Kind) (keeps releases proposeKeep proposeRelease opens : ℕ) (next : Option Ballot) (forced decides : Option Side) → Row
+  step : (n t : ℕ) (round : Kind) (keeps releases propose_keep propose_release opens : ℕ) (next : Option Ballot) (forced decides : Option Side) → Row
   -- the record of these fields has this body
   body : (kind colour station day shelf packed : ℕ) → Row
 
