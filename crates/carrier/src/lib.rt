@@ -1,4 +1,5 @@
-// What brings messages from one process to another. A carrier is known only by the messages that wait in it and by its capacity.
+// What brings messages from one process to another. Turns know a carrier by the messages that wait in it and by its
+// capacity alone.
 #![tactic(auto)]
 
 ghost use Rattle.std.specs.Prelude.{◌≡◌, ℕ, ◌-◌, ◌≤◌, true, List, [], length, IfOk, OnOk, ◌==◌};
