@@ -2,6 +2,7 @@
 #![tactic(auto)]
 
 pub mod coins;
+mod sides;
 pub mod strips;
 pub mod words;
 

@@ -3,6 +3,7 @@ ghost use Rattle.std.specs.Prelude.{◌≡◌};
 ghost use Rattle.coin.specs.Sides.{strip_side, own_side, dealer_side};
 
 use crate::coins::{Coin, SharedCoin};
+use crate::sides::side_of;
 use plan::Plan;
 use protocol::Side;
 
@@ -25,14 +26,7 @@ pub struct DealerStrip<'a> {
 fn side_at(bytes: &[u8], index: usize) -> Side
     ensures { result ≡ strip_side bytes.now index }
 {
-    if index >= bytes.len() {
-        return Side::Keep;
-    }
-    if bytes[index] % 2 == 1 {
-        Side::Release
-    } else {
-        Side::Keep
-    }
+    bytes.get(index).map_or(Side::Keep, |byte| side_of(u64::from(*byte)))
 }
 
 impl<'a> OwnStrip<'a> {
@@ -65,12 +59,11 @@ impl Coin for OwnStrip<'_> {
     ghost shows = { λ s. own_side s.bytes.now s.cases s.phases };
 
     fn toss(&self, process: u8, case: u8, phase: u8) -> Side {
-        if phase == 0 {
+        let Some(past) = phase.checked_sub(1) else {
             return Side::Keep;
-        }
+        };
         let row = process as usize * self.cases as usize + case as usize;
-        let index = row * self.phases as usize + (phase as usize - 1);
-        side_at(self.bytes, index)
+        side_at(self.bytes, row * self.phases as usize + past as usize)
     }
 }
 
@@ -84,10 +77,10 @@ impl Coin for DealerStrip<'_> {
 
 impl SharedCoin for DealerStrip<'_> {
     fn toss_for_all(&self, case: u8, phase: u8) -> Side {
-        if phase == 0 {
+        let Some(past) = phase.checked_sub(1) else {
             return Side::Keep;
-        }
+        };
         let first = case as usize * self.phases as usize;
-        side_at(self.bytes, first + (phase as usize - 1))
+        side_at(self.bytes, first + past as usize)
     }
 }

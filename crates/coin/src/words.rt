@@ -3,6 +3,7 @@ ghost use Rattle.std.specs.Prelude.{◌≡◌};
 ghost use Rattle.coin.specs.Sides.{word_side};
 
 use crate::coins::{Coin, SharedCoin};
+use crate::sides::side_of;
 use protocol::Side;
 
 #[derive(Clone, Copy)]
@@ -28,14 +29,10 @@ impl Coin for WordCoin {
 
 impl SharedCoin for WordCoin {
     fn toss_for_all(&self, case: u8, phase: u8) -> Side {
-        if phase == 0 {
+        let Some(past) = phase.checked_sub(1) else {
             return Side::Keep;
-        }
-        let bit = (16 * u32::from(case) + (u32::from(phase) - 1)) % 64;
-        if (self.word >> bit) % 2 == 1 {
-            Side::Release
-        } else {
-            Side::Keep
-        }
+        };
+        let bit = (16 * u32::from(case) + u32::from(past)) % 64;
+        side_of(self.word >> bit)
     }
 }

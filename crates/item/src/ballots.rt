@@ -16,7 +16,7 @@ impl Item for Ballot {
     ghost faithful = { Prim.search rules };
 
     fn unpack(body: u64) -> Option<Ballot> {
-        Ballot::from_number(body)
+        Ballot::try_from(body).ok()
     }
 
     fn pack(&self) -> u64 {

@@ -1,3 +1,4 @@
+pub mod Lines
 pub mod Marks
 pub mod Plans
 pub mod Sheet

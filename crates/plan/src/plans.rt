@@ -5,7 +5,7 @@ pub mod methods;
 pub mod sheet;
 
 // How many processes there are, how many of them may be faulty, and how much they may say.
-#[derive(Clone, Copy)]
+#[derive(Clone, Copy, Debug, PartialEq, Eq)]
 pub struct Plan {
     n: u8,
     t: u8,
@@ -21,7 +21,7 @@ pub struct Plan {
 }
 
 // How long the slices of a line's memory have to be.
-#[derive(Clone, Copy)]
+#[derive(Clone, Copy, Debug, PartialEq, Eq)]
 pub struct Needs {
     pub broadcast_records: usize,
     pub body_places: usize,
@@ -30,7 +30,7 @@ pub struct Needs {
 }
 
 // How many echoes of a body make a process ready, how many readies do, and how many readies make it accept.
-#[derive(Clone, Copy)]
+#[derive(Clone, Copy, Debug, PartialEq, Eq)]
 pub struct Thresholds {
     pub echo: u8,
     pub ready: u8,

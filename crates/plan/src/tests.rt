@@ -59,7 +59,7 @@ fn t_processes_can_be_marked(rt: HostRuntime) -> Result<(), Fail> {
     assert_eq!(rt; draft.mark_faulty(6), Err(Refusal::MarkRefused));
     assert_eq!(rt; draft.mark_faulty(0), Ok(()));
     assert_eq!(rt; draft.mark_faulty(1), Err(Refusal::MarkRefused));
-    let line = Line::from_draft(draft);
+    let line = Line::from(draft);
     assert!(rt; line.is_faulty(6) && line.is_faulty(0));
     assert!(rt; !line.is_faulty(1) && !line.is_faulty(7) && !line.is_faulty(u64::MAX));
     Ok(())

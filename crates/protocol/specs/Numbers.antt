@@ -1,5 +1,7 @@
 -- The numbers of sides and ballots. Assumes nothing.
-use Rattle.std.specs.Prelude.{◌≡◌, ℕ, cond, Some, None, Option, ◌==◌}
+use Rattle.std.specs.Prelude.{◌≡◌, ℕ, cond, Some, None, Option, Result, ok_or, ◌==◌}
+use Rattle.protocol.specs.declared.refusals.Refusal.{Refusal}
+use Rattle.protocol.specs.declared.refusals.Refusal.TheVariants.{ValueOutOfRange}
 use Rattle.protocol.specs.declared.votes.Side.{Side}
 use Rattle.protocol.specs.declared.votes.Side.TheVariants as side
 use Rattle.protocol.specs.declared.votes.Ballot.{Ballot}
@@ -26,6 +28,11 @@ ballot_of n =
 pub record Exact (n : ℕ) (o : Option Ballot) : Type 0 where
   pub sound : (b : Ballot) → o ≡ Some b → n ≡ ballot_number b
   pub full : (b : Ballot) → n ≡ ballot_number b → o ≡ Some b
+
+-- what a number is turned into: the ballot that has it, if one has
+pub record Turns (n : ℕ) (r : Result Ballot Refusal) : Type 0 where
+  pub value : r ≡ ok_or (ballot_of n) ValueOutOfRange
+  pub exact : Exact n (ballot_of n)
 
 abbrev pub vote : Side → Ballot
 vote side.Keep = Keep

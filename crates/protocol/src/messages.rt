@@ -4,7 +4,7 @@ ghost use Rattle.std.specs.Prelude.{◌<◌};
 pub mod methods;
 
 // Where a broadcast stands for the sender: it begins it, repeats what was begun, or commits to it.
-#[derive(Clone, Copy)]
+#[derive(Clone, Copy, Debug, PartialEq, Eq)]
 pub enum Step {
     Initial,
     Echo,
@@ -12,7 +12,7 @@ pub enum Step {
 }
 
 // What a broadcast is of: an announced item, or the ballot of one round of a case. A subject may lie outside every plan.
-#[derive(Clone, Copy)]
+#[derive(Clone, Copy, Debug, PartialEq, Eq)]
 pub enum Subject {
     Item {
         originator: u64,
@@ -26,7 +26,7 @@ pub enum Subject {
 }
 
 // One message from a process to another or to itself.
-#[derive(Clone, Copy)]
+#[derive(Clone, Copy, Debug, PartialEq, Eq)]
 pub struct Message {
     sender: u8,
     addressee: u8,

@@ -7,22 +7,22 @@ use std::fmt;
 
 #[derive(Clone, Copy, Debug, PartialEq, Eq)]
 pub enum Refusal {
-    PlanOutOfRange,
-    MemoryTooSmall,
-    MessageWaiting,
-    ProcessOutOfRange,
-    MarkRefused,
-    WrongRole,
-    SubjectOutOfPlan,
-    NothingWaiting,
-    ValueOutOfRange,
-    SerialsUsedUp,
-    CaseAlreadyOpened,
-    MayNotAdvance,
-    NoRoom,
-    SlipRefused,
-    NotRead,
-    LineOutOfPlace,
+    PlanOutOfRange = 1,
+    MemoryTooSmall = 2,
+    MessageWaiting = 3,
+    ProcessOutOfRange = 4,
+    MarkRefused = 5,
+    WrongRole = 6,
+    SubjectOutOfPlan = 7,
+    NothingWaiting = 8,
+    ValueOutOfRange = 9,
+    SerialsUsedUp = 10,
+    CaseAlreadyOpened = 11,
+    MayNotAdvance = 12,
+    NoRoom = 13,
+    SlipRefused = 14,
+    NotRead = 15,
+    LineOutOfPlace = 16,
 }
 
 impl Refusal {
@@ -30,24 +30,7 @@ impl Refusal {
     pub fn number(self) -> u8
         ensures { result ≡ refusal_number self }
     {
-        match self {
-            Refusal::PlanOutOfRange => 1,
-            Refusal::MemoryTooSmall => 2,
-            Refusal::MessageWaiting => 3,
-            Refusal::ProcessOutOfRange => 4,
-            Refusal::MarkRefused => 5,
-            Refusal::WrongRole => 6,
-            Refusal::SubjectOutOfPlan => 7,
-            Refusal::NothingWaiting => 8,
-            Refusal::ValueOutOfRange => 9,
-            Refusal::SerialsUsedUp => 10,
-            Refusal::CaseAlreadyOpened => 11,
-            Refusal::MayNotAdvance => 12,
-            Refusal::NoRoom => 13,
-            Refusal::SlipRefused => 14,
-            Refusal::NotRead => 15,
-            Refusal::LineOutOfPlace => 16,
-        }
+        self as u8
     }
 
     // What went wrong, in a sentence.

@@ -26,11 +26,11 @@ fn ends_are_below_sixteen(rt: HostRuntime) {
 #[test]
 fn ballots_have_numbers(rt: HostRuntime) -> Result<(), Fail> {
     for number in 0..5 {
-        let ballot = Ballot::from_number(number).ok_or("no ballot")?;
+        let ballot = Ballot::try_from(number)?;
         assert_eq!(rt; ballot.number(), number);
     }
-    assert_eq!(rt; Ballot::from_number(5), None);
-    assert_eq!(rt; Ballot::from_number(u64::MAX), None);
+    assert_eq!(rt; Ballot::try_from(5), Err(Refusal::ValueOutOfRange));
+    assert_eq!(rt; Ballot::try_from(u64::MAX), Err(Refusal::ValueOutOfRange));
     Ok(())
 }
 

@@ -1,6 +1,8 @@
 // The sides of a case, and the ballots that are cast on it.
 ghost use Rattle.std.specs.Prelude.{◌≡◌};
-ghost use Rattle.protocol.specs.Numbers.{side_number, ballot_number, ballot_of, Exact, vote, proposal};
+ghost use Rattle.protocol.specs.Numbers.{side_number, ballot_number, Turns, vote, proposal};
+
+use crate::refusals::Refusal;
 
 // How a case may be decided.
 #[derive(Clone, Copy, Debug, PartialEq, Eq)]
@@ -12,21 +14,18 @@ pub enum Side {
 // What a process says in a round: a vote for a side, a proposal of one, or neither.
 #[derive(Clone, Copy, Debug, PartialEq, Eq)]
 pub enum Ballot {
-    Keep,
-    Release,
-    ProposeKeep,
-    ProposeRelease,
-    Open,
+    Keep = 0,
+    Release = 1,
+    ProposeKeep = 2,
+    ProposeRelease = 3,
+    Open = 4,
 }
 
 impl Side {
     pub fn number(self) -> u64
         ensures { result ≡ side_number self }
     {
-        match self {
-            Side::Keep => 0,
-            Side::Release => 1,
-        }
+        self as u64
     }
 }
 
@@ -34,28 +33,7 @@ impl Ballot {
     pub fn number(self) -> u64
         ensures { result ≡ ballot_number self }
     {
-        match self {
-            Ballot::Keep => 0,
-            Ballot::Release => 1,
-            Ballot::ProposeKeep => 2,
-            Ballot::ProposeRelease => 3,
-            Ballot::Open => 4,
-        }
-    }
-
-    // The ballot of that number, if there is one.
-    pub fn from_number(number: u64) -> Option<Ballot>
-        ensures value { result ≡ ballot_of number }
-        ensures exact { Exact number result }
-    {
-        match number {
-            0 => Some(Ballot::Keep),
-            1 => Some(Ballot::Release),
-            2 => Some(Ballot::ProposeKeep),
-            3 => Some(Ballot::ProposeRelease),
-            4 => Some(Ballot::Open),
-            _ => None,
-        }
+        self as u64
     }
 
     // The ballot that votes for a side.
@@ -75,6 +53,24 @@ impl Ballot {
         match side {
             Side::Keep => Ballot::ProposeKeep,
             Side::Release => Ballot::ProposeRelease,
+        }
+    }
+}
+
+// The ballot of that number, if there is one.
+impl TryFrom<u64> for Ballot {
+    type Error = Refusal;
+
+    ghost try_from_gives = { Turns };
+
+    fn try_from(number: u64) -> Result<Ballot, Refusal> {
+        match number {
+            0 => Ok(Ballot::Keep),
+            1 => Ok(Ballot::Release),
+            2 => Ok(Ballot::ProposeKeep),
+            3 => Ok(Ballot::ProposeRelease),
+            4 => Ok(Ballot::Open),
+            _ => Err(Refusal::ValueOutOfRange),
         }
     }
 }

@@ -25,7 +25,7 @@ impl Record {
     ) -> Result<Record, Refusal>
         ensures { result ≡ recorded kind colour station day shelf }
     {
-        if kind < 1 || kind > LAST_KIND || colour > LAST_COLOUR {
+        if !(1..=LAST_KIND).contains(&kind) || colour > LAST_COLOUR {
             return Err(Refusal::ValueOutOfRange);
         }
         if station > LAST || day > LAST || shelf > LAST {

@@ -14,7 +14,7 @@ impl Tag {
     pub fn new(number: u64) -> Result<Tag, Refusal>
         ensures { result ≡ tagged number }
     {
-        if number < 1 || number > LAST_TAG {
+        if !(1..=LAST_TAG).contains(&number) {
             return Err(Refusal::ValueOutOfRange);
         }
         Ok(Tag {

@@ -1,23 +1,23 @@
 // Which processes of a line are faulty.
-ghost use Rattle.std.specs.Prelude.{◌≡◌, ◌<◌, ◌≤◌, true};
-ghost use Rattle.protocol.specs.Counting.{below};
+ghost use Rattle.std.specs.Prelude.{◌≡◌, ◌<◌, true};
 ghost use Rattle.plan.specs.Marks.{marked};
+ghost use Rattle.plan.specs.Lines.{Becomes};
 
 use crate::drafts::methods::is_marked;
 use crate::drafts::{Draft, Line};
 use crate::plans::Plan;
 
-impl Line {
-    // The line that a draft becomes. Opening calls it once memory and carrier are ready.
-    pub fn from_draft(draft: Draft) -> Line
-        ensures plan { result.plan ≡ draft.plan }
-        ensures marks { result.marks ≡ draft.marks }
-        ensures few { below result.plan.n (marked result.marks) ≤ result.plan.t }
-    {
+// The line that a draft becomes. Opening calls it once memory and carrier are ready.
+impl From<Draft> for Line {
+    ghost from_gives = { Becomes };
+
+    fn from(draft: Draft) -> Line {
         let Draft { plan, marks } = draft;
         Line { plan, marks }
     }
+}
 
+impl Line {
     pub fn plan(&self) -> Plan
         ensures { result ≡ self.now.plan }
     {

@@ -18,10 +18,10 @@ impl Plan {
     pub fn new(n: u64, t: u64, serials: u64, cases: u64, phases: u64) -> Result<Plan, Refusal>
         ensures { result ≡ planned n t serials cases phases }
     {
-        if n < 1 || n > MOST_PROCESSES || t > (n - 1) / 3 {
+        if !(1..=MOST_PROCESSES).contains(&n) || t > (n - 1) / 3 {
             return Err(Refusal::PlanOutOfRange);
         }
-        if serials > MOST_SERIALS || cases > MOST_CASES || phases < 1 || phases > MOST_PHASES {
+        if serials > MOST_SERIALS || cases > MOST_CASES || !(1..=MOST_PHASES).contains(&phases) {
             return Err(Refusal::PlanOutOfRange);
         }
         Ok(Plan {

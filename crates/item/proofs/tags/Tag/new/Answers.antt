@@ -3,8 +3,8 @@ use Rattle.std.proofs.lemmas.Bool.Decides.{nat_tests}
 use Rattle.item.specs.Made.{tagged_of, tagged_not}
 use Rattle.item.proofs.tags.Tag.new.Goals as goal
 
-pub returns-then-number-lt1 : goal.returns-then-number-lt1
-returns-then-number-lt1 c = sym (tagged_not _ (grind (arith, nat_tests)))
+pub returns-then-not-contains : goal.returns-then-not-contains
+returns-then-not-contains c = sym (tagged_not _ (grind (arith, nat_tests)))
 
 pub returns : goal.returns
 returns c = sym (tagged_of _)
