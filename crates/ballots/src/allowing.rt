@@ -75,7 +75,7 @@ fn after_third(t: u64, m: u64, tally: Tally) -> Allowed
 pub(crate) fn sift(allowed: Allowed, body: Option<u64>) -> Option<Ballot>
     ensures { result ≡ sifted allowed body }
 {
-    let ballot = Ballot::from_number(body?)?;
+    let ballot = Ballot::try_from(body?).ok()?;
     if takes(allowed, ballot) {
         Some(ballot)
     } else {

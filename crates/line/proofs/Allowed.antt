@@ -1,27 +1,16 @@
--- Why announce and forge are refused, test by test. Assumes nothing.
+-- Why forging is refused, test by test. Assumes nothing.
 use Rattle.std.proofs.Common.{◌≡◌, ℕ, ◌-◌, ◌<◌, ◌≤◌, Bool, true, false, ◌&&◌, ltb, leb, List, length, Some, None, Option, sym, refl, ap, ◌∙◌, arith}
-use Rattle.std.proofs.lemmas.Bool.{cond-true, cond-false, lt-ltb, le-ltb, le-leb, lt-leb}
+use Rattle.std.proofs.lemmas.Bool.{cond-true, cond-false, lt-ltb, le-ltb, le-leb}
 use Rattle.protocol.specs.declared.messages.Message.{Message}
 use Rattle.protocol.specs.declared.refusals.Refusal.{Refusal}
-use Rattle.protocol.specs.declared.refusals.Refusal.TheVariants.{MemoryTooSmall, ProcessOutOfRange, WrongRole, SubjectOutOfPlan, SerialsUsedUp, NoRoom}
+use Rattle.protocol.specs.declared.refusals.Refusal.TheVariants.{MemoryTooSmall, ProcessOutOfRange, WrongRole, SubjectOutOfPlan, NoRoom}
 use Rattle.plan.specs.declared.drafts.Line.{Line}
-use Rattle.memory.specs.Contents.{Held, serial_at}
+use Rattle.memory.specs.Contents.{Held}
 use Rattle.memory.specs.Places.{enough, within}
-use Rattle.rules.specs.Turns.{Announce, Forge, faulty, unless, refusal}
-use Rattle.line.specs.Checks.{process_tests, correct_tests}
+use Rattle.rules.specs.Turns.{Forge, faulty, unless, refusal}
+use Rattle.line.specs.Checks.{process_tests}
 
 module _ (line : Line) (capacity : ℕ) (h : Held) (ws : List Message) where
-  module _ (i b : ℕ) (before : (rest : Option Refusal) → correct_tests line h i rest ≡ rest) where
-    pub used_up : line.plan.serials ≤ serial_at h i → refusal line capacity h ws (Announce i b) ≡ Some SerialsUsedUp
-    used_up le = before _ ∙ cond-false _ _ _ (le-ltb (serial_at h i) line.plan.serials le)
-
-    module _ (unused : serial_at h i < line.plan.serials) where
-      pub no_room : capacity - length ws < line.plan.n → refusal line capacity h ws (Announce i b) ≡ Some NoRoom
-      no_room lt = before _ ∙ cond-true _ _ _ (lt-ltb (serial_at h i) line.plan.serials unused) ∙ cond-false _ _ _ (lt-leb line.plan.n (capacity - length ws) lt)
-
-      pub may_announce : line.plan.n ≤ capacity - length ws → refusal line capacity h ws (Announce i b) ≡ None
-      may_announce le = before _ ∙ cond-true _ _ _ (lt-ltb (serial_at h i) line.plan.serials unused) ∙ cond-true _ _ _ (le-leb line.plan.n (capacity - length ws) le)
-
   -- the two ends of a message, tested one after the other
   ends : (a b : Bool) (e : Refusal) (rest : Option Refusal) → unless (a && b) e rest ≡ unless a e (unless b e rest)
   ends true b e rest = refl

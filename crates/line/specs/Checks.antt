@@ -1,5 +1,5 @@
 -- What the first tests of a call answer. Assumes nothing.
-use Rattle.std.specs.Prelude.{◌≡◌, ℕ, ◌-◌, ◌*◌, Bool, true, false, not, ◌||◌, List, length, Some, None, Ok, Err, Option, Result, nat_le, nat_lt}
+use Rattle.std.specs.Prelude.{◌≡◌, ℕ, ◌-◌, ◌*◌, ◌<◌, ◌≤◌, Bool, true, false, not, ◌||◌, List, length, Some, None, Ok, Err, Option, Result, nat_le, nat_lt}
 use Rattle.protocol.specs.declared.messages.Message.{Message}
 use Rattle.protocol.specs.declared.refusals.Refusal.{Refusal}
 use Rattle.protocol.specs.declared.refusals.Refusal.TheVariants.{MemoryTooSmall, ProcessOutOfRange, WrongRole, NothingWaiting, NoRoom}
@@ -21,6 +21,11 @@ process_tests line h i rest = unless (enough line.plan h) MemoryTooSmall (unless
 -- and the process is correct
 abbrev pub correct_tests : Line → Held → ℕ → Option Refusal → Option Refusal
 correct_tests line h i rest = process_tests line h i (unless (not (faulty line i)) WrongRole rest)
+
+-- there is room for a message to each process, or there is not
+abbrev pub RoomForAll : Result (Unit {0}) Refusal → Line → ℕ → List Message → Type 0
+RoomForAll (Ok _) line capacity ws = line.plan.n ≤ capacity - length ws
+RoomForAll (Err e) line capacity ws = (e ≡ NoRoom) × (capacity - length ws < line.plan.n)
 
 -- there is room for all that a delivery may make a process send; or a delivery is refused, for want of a message before want of room
 abbrev pub Roomy : Result (Unit {0}) Refusal → Line → ℕ → ℕ → List Message → Type 0

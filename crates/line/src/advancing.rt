@@ -6,12 +6,12 @@ ghost use Rattle.rules.specs.Turns.{said, settled, ballots};
 ghost use Rattle.line.specs.Checks.{spacious, Spacious};
 ghost use Rattle.line.specs.Sent.{Sent};
 
-use crate::checks::check_correct;
+use crate::checks::{check_correct, check_room, find_case};
 use crate::sending::send_to_all;
 use carrier::Carrier;
 use cases::next_step;
 use coin::Coin;
-use memory::{CaseRecord, Decision, Memory, case_place};
+use memory::{CaseRecord, Decision, Memory};
 use plan::Line;
 use protocol::{Ballot, Refusal, Side, Step, Subject};
 use rules::Advanced;
@@ -30,16 +30,11 @@ pub fn advance<C: Carrier, K: Coin>(
     ensures kept { C.Carrier.capacity carrier.new ≡ C.Carrier.capacity carrier.old }
 {
     check_correct(line, memory, process)?;
-    let plan = line.plan();
-    let Some(at) = case_place(&plan, process, case) else {
-        return Err(Refusal::SubjectOutOfPlan);
-    };
-    let Some(step) = next_step(&plan, memory, process, case) else {
-        return Err(Refusal::MayNotAdvance);
-    };
+    let at = find_case(line, process, case)?;
+    let step = next_step(&line.plan(), memory, process, case).ok_or(Refusal::MayNotAdvance)?;
     let record = memory.case_record(at);
     let round = u64::from(record.round);
-    check_room(line, carrier, round)?;
+    check_room_after(line, carrier, round)?;
     let phase = record.round / 3;
     memory.set_case_record(at, moved(record, step.decides, phase));
     let ballot = said(step.next, coin, process as u8, case as u8, phase);
@@ -51,12 +46,11 @@ pub fn advance<C: Carrier, K: Coin>(
 }
 
 // Before the last round there has to be room for the next ballot.
-fn check_room<C: Carrier>(line: &Line, carrier: &C, round: u64) -> Result<(), Refusal>
+fn check_room_after<C: Carrier>(line: &Line, carrier: &C, round: u64) -> Result<(), Refusal>
     ensures { Spacious result line.now round (C.Carrier.capacity carrier.now) (C.Carrier.waiting carrier.now) }
 {
-    let plan = line.plan();
-    if round < 3 * plan.phases() && u64::from(carrier.free()) < plan.n() {
-        return Err(Refusal::NoRoom);
+    if round < 3 * line.plan().phases() {
+        check_room(line, carrier)?;
     }
     Ok(())
 }
@@ -68,13 +62,10 @@ fn moved(record: CaseRecord, decides: Option<Side>, phase: u8) -> CaseRecord
     ensures decision { result.decision ≡ settled «record».decision decides phase }
     ensures slip { result.slip ≡ «record».slip }
 {
-    let decision = match (record.decision, decides) {
-        (None, Some(side)) => Some(Decision { side, phase }),
-        (earlier, _) => earlier,
-    };
+    let decided = decides.map(|side| Decision { side, phase });
     CaseRecord {
         round: record.round + 1,
-        decision,
+        decision: record.decision.or(decided),
         ..record
     }
 }
@@ -83,10 +74,7 @@ fn moved(record: CaseRecord, decides: Option<Side>, phase: u8) -> CaseRecord
 fn said<K: Coin>(next: Option<Ballot>, coin: &K, process: u8, case: u8, phase: u8) -> Ballot
     ensures { result ≡ said next (K.Coin.shows coin.now process case phase) }
 {
-    match next {
-        Some(ballot) => ballot,
-        None => Ballot::vote(coin.toss(process, case, phase)),
-    }
+    next.unwrap_or_else(|| Ballot::vote(coin.toss(process, case, phase)))
 }
 
 // Sends the ballot of the round after this one, unless this one is the last.
@@ -103,8 +91,7 @@ fn send_next<C: Carrier>(
     ensures sent { Sent C.Carrier.waiting C.Carrier.capacity C.Carrier.posting carrier.old (ballots line.now process case round ballot) carrier.new }
     ensures count { result ≡ length (ballots line.now process case round ballot) }
 {
-    let plan = line.plan();
-    if round >= 3 * plan.phases() {
+    if round >= 3 * line.plan().phases() {
         return 0;
     }
     let subject = Subject::Ballot {
@@ -113,8 +100,8 @@ fn send_next<C: Carrier>(
         round: round + 1,
     };
     send_to_all(
+        line,
         carrier,
-        plan.n(),
         process,
         Step::Initial,
         subject,

@@ -5,7 +5,7 @@ ghost use Rattle.memory.specs.Contents.{held};
 ghost use Rattle.rules.specs.Turns.{initials};
 ghost use Rattle.rules.specs.Answers.{Announcement};
 
-use crate::checks::check_correct;
+use crate::checks::{check_correct, check_room};
 use crate::sending::send_to_all;
 use carrier::Carrier;
 use item::Item;
@@ -27,27 +27,17 @@ pub fn announce<C: Carrier, I: Item>(
     ensures order { IfOk result (λ a. Posts C.Carrier.posting carrier.old (initials line.now process a.serial (I.Item.packed value.now)) carrier.new) }
 {
     check_correct(line, memory, process)?;
-    let plan = line.plan();
     let serial = memory.next_serial(process as usize);
-    if u64::from(serial) >= plan.serials() {
+    if u64::from(serial) >= line.plan().serials() {
         return Err(Refusal::SerialsUsedUp);
     }
-    if u64::from(carrier.free()) < plan.n() {
-        return Err(Refusal::NoRoom);
-    }
+    check_room(line, carrier)?;
     memory.set_next_serial(process as usize, serial + 1);
     let serial = u64::from(serial);
     let subject = Subject::Item {
         originator: process,
         serial,
     };
-    let posted = send_to_all(
-        carrier,
-        plan.n(),
-        process,
-        Step::Initial,
-        subject,
-        value.pack(),
-    );
+    let posted = send_to_all(line, carrier, process, Step::Initial, subject, value.pack());
     Ok(Announced { serial, posted })
 }

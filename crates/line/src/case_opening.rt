@@ -7,10 +7,10 @@ ghost use Rattle.carrier.specs.Posting.{Posts};
 ghost use Rattle.memory.specs.Contents.{held};
 ghost use Rattle.rules.specs.Answers.{CaseOpening};
 
-use crate::checks::check_correct;
+use crate::checks::{check_correct, check_room, find_case};
 use crate::sending::send_to_all;
 use carrier::Carrier;
-use memory::{CaseRecord, Memory, case_place};
+use memory::{CaseRecord, Memory};
 use plan::Line;
 use protocol::{Refusal, Step, Subject};
 
@@ -28,10 +28,7 @@ pub fn open_case<C: Carrier>(
     ensures order { OnOk result (Posts C.Carrier.posting carrier.old (to_all line.now.plan.n process Initial (BallotOf process case 1) vote) carrier.new) }
 {
     check_correct(line, memory, process)?;
-    let plan = line.plan();
-    let Some(at) = case_place(&plan, process, case) else {
-        return Err(Refusal::SubjectOutOfPlan);
-    };
+    let at = find_case(line, process, case)?;
     if vote > 1 {
         return Err(Refusal::ValueOutOfRange);
     }
@@ -39,14 +36,12 @@ pub fn open_case<C: Carrier>(
     if record.round != 0 {
         return Err(Refusal::CaseAlreadyOpened);
     }
-    if u64::from(carrier.free()) < plan.n() {
-        return Err(Refusal::NoRoom);
-    }
+    check_room(line, carrier)?;
     memory.set_case_record(at, CaseRecord { round: 1, ..record });
     let subject = Subject::Ballot {
         originator: process,
         case,
         round: 1,
     };
-    Ok(send_to_all(carrier, plan.n(), process, Step::Initial, subject, vote))
+    Ok(send_to_all(line, carrier, process, Step::Initial, subject, vote))
 }

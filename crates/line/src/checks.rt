@@ -1,10 +1,13 @@
 // What calls on a line check first.
-ghost use Rattle.std.specs.Prelude.{◌<◌, OnOk};
+ghost use Rattle.std.specs.Prelude.{◌≡◌, ◌<◌, OnOk, ok_or};
+ghost use Rattle.protocol.specs.declared.refusals.Refusal.TheVariants.{SubjectOutOfPlan};
 ghost use Rattle.memory.specs.Contents.{held};
+ghost use Rattle.memory.specs.Places.{case_place_of};
 ghost use Rattle.rules.specs.Promises.{Correct};
-ghost use Rattle.line.specs.Checks.{Answers, process_tests, correct_tests};
+ghost use Rattle.line.specs.Checks.{Answers, process_tests, correct_tests, RoomForAll};
 
-use memory::{Memory, is_enough};
+use carrier::Carrier;
+use memory::{Memory, case_place, is_enough};
 use plan::Line;
 use protocol::Refusal;
 
@@ -31,6 +34,23 @@ pub fn check_correct(line: &Line, memory: &Memory, process: u64) -> Result<(), R
     check_process(line, memory, process)?;
     if line.is_faulty(process) {
         return Err(Refusal::WrongRole);
+    }
+    Ok(())
+}
+
+// Where the memory has a process's record of a case. Refused for a case outside the plan.
+pub fn find_case(line: &Line, process: u64, case: u64) -> Result<usize, Refusal>
+    ensures { result ≡ ok_or (case_place_of line.now.plan process case) SubjectOutOfPlan }
+{
+    case_place(&line.plan(), process, case).ok_or(Refusal::SubjectOutOfPlan)
+}
+
+// Refused where the carrier has no room for a message to each process.
+pub(crate) fn check_room<C: Carrier>(line: &Line, carrier: &C) -> Result<(), Refusal>
+    ensures { RoomForAll result line.now (C.Carrier.capacity carrier.now) (C.Carrier.waiting carrier.now) }
+{
+    if u64::from(carrier.free()) < line.plan().n() {
+        return Err(Refusal::NoRoom);
     }
     Ok(())
 }

@@ -35,9 +35,8 @@ pub fn deliver<C: Carrier>(
             accepted: false,
         });
     }
-    let plan = line.plan();
-    let reaction = receive(&plan, memory, process, &message);
-    let posted = reply(carrier, plan.n(), &message, reaction);
+    let reaction = receive(&line.plan(), memory, process, &message);
+    let posted = reply(line, carrier, &message, reaction);
     Ok(Delivered {
         posted,
         accepted: reaction.accepted,
@@ -58,13 +57,12 @@ fn check_room<C: Carrier>(line: &Line, carrier: &C, process: u64) -> Result<(), 
 }
 
 // Sends what the reaction says, and answers how many messages these are.
-fn reply<C: Carrier>(carrier: &mut C, n: u64, message: &Message, reaction: Reaction) -> u64
-    requires few { n ≤ 16 }
-    requires room { length (C.Carrier.waiting carrier.old) + 2 * n ≤ C.Carrier.capacity carrier.old }
-    ensures sent { Sent C.Carrier.waiting C.Carrier.capacity C.Carrier.posting carrier.old (replies n message.now reaction) carrier.new }
-    ensures count { result ≡ length (replies n message.now reaction) }
+fn reply<C: Carrier>(line: &Line, carrier: &mut C, message: &Message, reaction: Reaction) -> u64
+    requires { length (C.Carrier.waiting carrier.old) + 2 * line.now.plan.n ≤ C.Carrier.capacity carrier.old }
+    ensures sent { Sent C.Carrier.waiting C.Carrier.capacity C.Carrier.posting carrier.old (replies line.now.plan.n message.now reaction) carrier.new }
+    ensures count { result ≡ length (replies line.now.plan.n message.now reaction) }
 {
-    let echoes = send_if(reaction.echo, carrier, n, message, Step::Echo);
-    let readies = send_if(reaction.ready, carrier, n, message, Step::Ready);
+    let echoes = send_if(reaction.echo, line, carrier, message, Step::Echo);
+    let readies = send_if(reaction.ready, line, carrier, message, Step::Ready);
     echoes + readies
 }

@@ -13,7 +13,7 @@ mod sending;
 pub use advancing::advance;
 pub use announcing::announce;
 pub use case_opening::open_case;
-pub use checks::{check_correct, check_process};
+pub use checks::{check_correct, check_process, find_case};
 pub use delivering::deliver;
 pub use forging::forge;
 pub use opening::open_line;

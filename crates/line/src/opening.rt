@@ -24,5 +24,5 @@ pub fn open_line<C: Carrier>(
         return Err((Refusal::MessageWaiting, draft));
     }
     clear(&plan, memory);
-    Ok(Line::from_draft(draft))
+    Ok(Line::from(draft))
 }

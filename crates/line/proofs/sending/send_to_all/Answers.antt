@@ -1,4 +1,5 @@
-use Rattle.std.proofs.Common.{◌≡◌, sym, subst, arith}
+use Rattle.std.proofs.Common.{◌≡◌, ap, subst, arith}
+use Rattle.plan.specs.declared.plans.Plan.{Plan}
 use Rattle.protocol.specs.Sending.{to_all}
 use Rattle.line.specs.Sent.{Sent}
 use Rattle.line.proofs.Rows.{to_length, sent_none, sent_more, sent_length}
@@ -10,7 +11,7 @@ loop-addressee-init g c = sent_none _ _ _ _ _ _ _ _
 pub unreachable-requires-in_default-post : goal.unreachable-requires-in_default-post
 unreachable-requires-in_default-post g c =
     let inv = c.loop-addressee.invariant in
-    omega (arith, sent_length _ _ _ _ _ _ inv, to_length c.args.sender c.args.step c.args.subject c.args.body c.loop-addressee.addressee, inv.kept, c.in_default-post.ensures.posted.full)
+    omega (arith, ap (λ (p : Plan). p.n) c.plan.ensures, sent_length _ _ _ _ _ _ inv, to_length c.args.sender c.args.step c.args.subject c.args.body c.loop-addressee.addressee, inv.kept, c.in_default-post.ensures.posted.full)
 
 pub loop-addressee-preserved : goal.loop-addressee-preserved
 loop-addressee-preserved g c =
@@ -26,8 +27,9 @@ loop-addressee-preserved g c =
 
 pub returns : goal.returns
 returns g c =
-    let end : c.loop-addressee.addressee ≡ c.args.n = omega arith in
+    let n = c.args.line.now.plan.n in
+    let end : c.loop-addressee.addressee ≡ n = omega (arith, ap (λ (p : Plan). p.n) c.plan.ensures) in
     record {
       sent = subst (λ n. Sent g.C.Carrier.waiting g.C.Carrier.capacity g.C.Carrier.posting c.args.carrier.now (to_all n c.args.sender c.args.step c.args.subject c.args.body) c.loop-addressee.carrier) end c.loop-addressee.invariant;
-      count = sym (to_length c.args.sender c.args.step c.args.subject c.args.body c.args.n);
+      count = omega (arith, ap (λ (p : Plan). p.n) c.plan.ensures, to_length c.args.sender c.args.step c.args.subject c.args.body n);
     }
