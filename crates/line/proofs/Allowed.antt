@@ -39,12 +39,3 @@ module _ (line : Line) (capacity : ℕ) (h : Held) (ws : List Message) where
         ends_known : refusal line capacity h ws (Forge m) ≡ tests
         ends_known = from_known ∙ cond-true _ _ _ (lt-ltb m.addressee line.plan.n to)
 
-        pub not_faulty : faulty line m.sender ≡ false → refusal line capacity h ws (Forge m) ≡ Some WrongRole
-        not_faulty x = ends_known ∙ cond-false _ _ _ x
-
-        module _ (role : faulty line m.sender ≡ true) where
-          pub not_within : within line.plan m.subject ≡ false → refusal line capacity h ws (Forge m) ≡ Some SubjectOutOfPlan
-          not_within x = ends_known ∙ cond-true _ _ _ role ∙ cond-false _ _ _ x
-
-          pub may_forge : within line.plan m.subject ≡ true → length ws < capacity → refusal line capacity h ws (Forge m) ≡ None
-          may_forge x lt = ends_known ∙ cond-true _ _ _ role ∙ cond-true _ _ _ x ∙ cond-true _ _ _ (le-leb 1 (capacity - length ws) (omega arith))
