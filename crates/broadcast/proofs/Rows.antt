@@ -1,9 +1,9 @@
 -- The places of one step of a record, and what is heard and counted in them. Assumes nothing.
-use Rattle.std.proofs.Common.{◌≡◌, ℕ, ◌+◌, ◌<◌, ◌≤◌, List, get_or, length, take, drop, None, Some, Option, count_by, sym, refl, ap, ◌∙◌, arith}
+use Rattle.std.proofs.Common.{◌≡◌, ℕ, ◌+◌, ◌<◌, ◌≤◌, List, get_or, length, take, drop, None, Some, Option, count_by, refl, ap, ◌∙◌, arith}
 use Rattle.std.proofs.lemmas.Grind.{common_steps}
 use Rattle.protocol.proofs.Counting.{below_alike}
 use Rattle.memory.proofs.Counting.{count_places}
-use Rattle.broadcast.specs.Hearing.{hear, hear_over, says, saying}
+use Rattle.broadcast.specs.Hearing.{hear, says, saying}
 use borrow.Rule.Slice.PartMut.{put_mid, put_same, set_mid_at}
 
 module _ (first k : ℕ) (xs row : List (Option ℕ)) (fits : first + k ≤ length xs) where
