@@ -1,6 +1,8 @@
 -- What holds where plan and memory admit a message. Assumes nothing.
-use Rattle.std.proofs.Common.{◌≡◌, ℕ, ◌+◌, ◌-◌, ◌<◌, ◌≤◌, Bool, true, false, cond, ◌&&◌, ltb, length, Some, None, sym, refl, ap, ◌∙◌, arith}
-use Rattle.std.proofs.lemmas.Bool.{and_from, cond-true, ltb-true, lt-ltb}
+use Rattle.std.proofs.Common.{◌≡◌, ℕ, ◌+◌, ◌-◌, ◌<◌, ◌≤◌, Bool, true, length, Some, sym, ap, ◌∙◌, arith}
+use Rattle.std.proofs.lemmas.Bool.{cond-true}
+use Rattle.std.proofs.lemmas.Bool.Decides.{nat_tests}
+use Rattle.std.proofs.lemmas.Option.{cond_some}
 use Rattle.protocol.specs.declared.messages.Message.{Message}
 use Rattle.protocol.specs.declared.messages.Subject.{Subject}
 use Rattle.plan.specs.declared.plans.Plan.{Plan}
@@ -8,20 +10,18 @@ use Rattle.memory.specs.Contents.{Held}
 use Rattle.memory.specs.Places.{enough, within, place, placed, place_of, Laid}
 use Rattle.memory.specs.declared.places.Place.{Place}
 use Rattle.memory.proofs.Sizes.{sizes}
-use Rattle.broadcast.specs.Receiving.{received, handled}
+use Rattle.broadcast.specs.Receiving.{admits, received, handled}
 
 -- what a place that was found says
 record Found (plan : Plan) (process : ℕ) (s : Subject) (p : Place) : Type 0 where
   at : p ≡ placed plan (place plan process s)
-  below : ltb process plan.n ≡ true
+  below : process < plan.n
   inside : within plan s ≡ true
 
 found : (plan : Plan) (process : ℕ) (s : Subject) (p : Place) → Some p ≡ place_of plan process s → Found plan process s p
-found plan process s p e = go (ltb process plan.n) (within plan s) refl refl e where
-  go : (a b : Bool) → ltb process plan.n ≡ a → within plan s ≡ b → Some p ≡ cond (a && b) (Some (placed plan (place plan process s))) None → Found plan process s p
-  go true true x y h = record { at = cc; below = x; inside = y }
-  go true false x y h = let z : ◌≡◌ {A = ℕ} 0 1 = cc in absurd (omega arith)
-  go false b x y h = let z : ◌≡◌ {A = ℕ} 0 1 = cc in absurd (omega arith)
+found plan process s p e =
+    let x = cond_some _ _ p (sym e) in
+    record { at = sym x.1; below = grind (arith, nat_tests); inside = grind (arith, nat_tests) }
 
 -- the record and the places that the message is heard in are there, and the message is handled
 pub record Admitted (plan : Plan) (process : ℕ) (m : Message) (h : Held) (p : Place) : Type 0 where
@@ -42,14 +42,13 @@ pub admitted :
 admitted plan process m h p s all from is_enough enough_so subject_is e laid =
     let f = found plan process m.subject p (e ∙ ap (λ (z : Subject). place_of plan process z) subject_is) in
     let fits = sym is_enough ∙ enough_so in
-    let k = place plan process m.subject in
     let size = sizes plan h fits in
-    let inside = laid.inside process m.subject (ltb-true process plan.n f.below) f.inside in
-    let last = laid.ready_inside k (plan.n - 1) inside (omega (arith, plan.tolerated)) in
+    let inside = laid.inside process m.subject f.below f.inside in
+    let last = laid.ready_inside (place plan process m.subject) (plan.n - 1) inside (omega (arith, plan.tolerated)) in
+    let admits_it : admits plan process m h ≡ true = grind (arith, nat_tests, f.inside) in
     record {
       at = rw f.at (omega (arith, size.broadcasts));
       echoes = rw f.at (omega (arith, size.bodies));
       readies = rw f.at (omega (arith, size.bodies));
-      handles =
-          rw f.at (sym (cond-true _ _ _ (and_from _ _ (lt-ltb m.sender plan.n from) (and_from _ _ fits (and_from _ _ f.below f.inside)))));
+      handles = rw f.at (sym (cond-true _ _ _ admits_it));
     }

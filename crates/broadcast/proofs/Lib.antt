@@ -1,3 +1,3 @@
 pub mod Admitted
-pub mod Counted
+pub mod Rows
 pub mod Settled

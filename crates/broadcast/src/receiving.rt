@@ -1,7 +1,7 @@
 // Hearing a message, and going on by what was heard.
-ghost use Rattle.std.specs.Prelude.{◌≡◌, ◌+◌, ◌<◌, ◌≤◌, length, slice_index_or};
+ghost use Rattle.std.specs.Prelude.{◌≡◌, ◌+◌, ◌<◌, ◌≤◌, length, slice_index_or, count_by};
 ghost use Rattle.memory.specs.Contents.{held, silent};
-ghost use Rattle.broadcast.specs.Hearing.{hear, saying, listened, agreeing, with_bodies};
+ghost use Rattle.broadcast.specs.Hearing.{hear, says, listened, agreeing, with_bodies};
 ghost use Rattle.broadcast.specs.Stages.{sends, turn, put};
 ghost use Rattle.broadcast.specs.Receiving.{outcome, received};
 
@@ -33,46 +33,42 @@ pub fn receive(plan: &Plan, memory: &mut Memory, process: u64, message: &Message
     )
 }
 
-// Hears an echo or a ready in its place, and counts those of the same body.
-fn listen(plan: &Plan, memory: &mut Memory, place: Place, message: &Message) -> u8
+// Hears an echo or a ready in its row of places, and counts those of the same body.
+fn listen(plan: &Plan, memory: &mut Memory, place: Place, message: &Message) -> usize
     requires known { message.now.sender < plan.now.n }
     requires echoes { place.echoes + plan.now.n ≤ length memory.old.bodies.now }
     requires readies { place.readies + plan.now.n ≤ length memory.old.bodies.now }
     ensures held { held memory.new ≡ with_bodies (listened place message.now message.now.step memory.old.bodies.now) (held memory.old) }
     ensures count { result ≡ agreeing plan.now.n place message.now message.now.step memory.new.bodies.now }
 {
-    match message.step() {
-        Step::Initial => 0,
-        Step::Echo => hear(memory.bodies, place.echoes, plan, message),
-        Step::Ready => hear(memory.bodies, place.readies, plan, message),
-    }
+    let first = match message.step() {
+        Step::Initial => return 0,
+        Step::Echo => place.echoes,
+        Step::Ready => place.readies,
+    };
+    hear(
+        &mut memory.bodies[first..first + plan.n() as usize],
+        message,
+    )
 }
 
-// Hears a message in the row of places that begins at `first`, and counts the places that hold its body.
-fn hear(bodies: &mut [Option<u64>], first: usize, plan: &Plan, message: &Message) -> u8
-    requires known { message.now.sender < plan.now.n }
-    requires room { first + plan.now.n ≤ length bodies.old }
-    ensures heard { bodies.new ≡ hear (first + message.now.sender) message.now.body bodies.old }
-    ensures count { result ≡ saying plan.now.n first message.now.body bodies.new }
+// Hears a message in a row that has a place for each sender, and counts the places that hold its body.
+fn hear(row: &mut [Option<u64>], message: &Message) -> usize
+    requires { message.now.sender < length row.old }
+    ensures heard { row.new ≡ hear message.now.sender message.now.body row.old }
+    ensures count { result ≡ count_by (says message.now.body) row.new }
 {
-    let at = first + message.sender() as usize;
-    if let None = bodies[at] {
-        bodies[at] = Some(message.body());
-    }
-    count_saying(bodies, first, plan.n() as usize, message.body())
+    row[message.sender() as usize].get_or_insert(message.body());
+    count_saying(row, message.body())
 }
 
-fn count_saying(bodies: &[Option<u64>], first: usize, n: usize, body: u64) -> u8
-    requires few { n ≤ 16 }
-    requires room { first + n ≤ length bodies.now }
-    ensures { result ≡ saying n first body bodies.now }
+fn count_saying(row: &[Option<u64>], body: u64) -> usize
+    ensures { result ≡ count_by (says body) row.now }
 {
     let mut count = 0;
-    for sender in 0..n {
-        if let Some(heard) = bodies[first + sender] {
-            if heard == body {
-                count += 1;
-            }
+    for heard in row {
+        if *heard == Some(body) {
+            count += 1;
         }
     }
     count
@@ -83,7 +79,7 @@ fn turn_stage(
     records: &mut [BroadcastRecord],
     at: usize,
     message: &Message,
-    count: u8,
+    count: usize,
     limits: Thresholds,
 ) -> Reaction
     requires inside { at < length records.old }
@@ -100,18 +96,18 @@ fn turn_stage(
                 ..Reaction::NOTHING
             }
         }
-        (stage, Step::Echo) if count >= limits.echo => {
+        (stage, Step::Echo) if count >= usize::from(limits.echo) => {
             records[at].stage = Stage::Readied;
             sending(stage)
         }
-        (stage, Step::Ready) if count >= limits.accept => {
+        (stage, Step::Ready) if count >= usize::from(limits.accept) => {
             records[at].stage = Stage::Accepted(message.body());
             Reaction {
                 accepted: true,
                 ..sending(stage)
             }
         }
-        (stage, Step::Ready) if count >= limits.ready => {
+        (stage, Step::Ready) if count >= usize::from(limits.ready) => {
             records[at].stage = Stage::Readied;
             sending(stage)
         }

@@ -1,7 +1,7 @@
 -- All places are among those that the plan needs, and no two things share one. Assumes nothing.
-use Rattle.std.proofs.Common.{◌≡◌, ℕ, ◌+◌, ◌-◌, ◌*◌, ◌/◌, ◌%◌, ◌<◌, ◌≤◌, true, ◌&&◌, ltb, leb, sym, ap, ◌∙◌, mul_assoc, mul_comm, add-mul, mul-add, arith}
+use Rattle.std.proofs.Common.{◌≡◌, ℕ, ◌+◌, ◌-◌, ◌*◌, ◌/◌, ◌%◌, ◌<◌, ◌≤◌, true, sym, ap, ◌∙◌, mul_assoc, mul_comm, add-mul, mul-add, arith}
 use Rattle.std.proofs.lemmas.Nat.{mul-add-lt, div-mul-add, mod-mul-add, mul-le}
-use Rattle.std.proofs.lemmas.Bool.{and_parts, ltb-true, leb-true}
+use Rattle.std.proofs.lemmas.Bool.Decides.{nat_tests}
 use Rattle.protocol.specs.Messages.{originator_of}
 use Rattle.protocol.specs.declared.messages.Subject.{Subject}
 use Rattle.protocol.specs.declared.messages.Subject.TheVariants.{Item, Ballot}
@@ -18,15 +18,10 @@ grid_apart w a b c d p q e = (
 module _ (plan : Plan) where
   -- what being within the plan says
   item_within : (i k : ℕ) → within plan (Item i k) ≡ true → (i < plan.n) × (k < plan.serials)
-  item_within i k h = let a = and_parts (ltb i plan.n) (ltb k plan.serials) h in (ltb-true i plan.n a.0, ltb-true k plan.serials a.1)
+  item_within i k h = (grind (arith, nat_tests), grind (arith, nat_tests))
 
   ballot_within : (i c r : ℕ) → within plan (Ballot i c r) ≡ true → (i < plan.n) × (c < plan.cases) × (1 ≤ r) × (r ≤ 3 * plan.phases)
-  ballot_within i c r h =
-      let rounds = leb 1 r && leb r (3 * plan.phases) in
-      let a = and_parts (ltb i plan.n) (ltb c plan.cases && rounds) h in
-      let b = and_parts (ltb c plan.cases) rounds a.1 in
-      let d = and_parts (leb 1 r) (leb r (3 * plan.phases)) b.1 in
-      (ltb-true i plan.n a.0, ltb-true c plan.cases b.0, leb-true 1 r d.0, leb-true r (3 * plan.phases) d.1)
+  ballot_within i c r h = (grind (arith, nat_tests), grind (arith, nat_tests), grind (arith, nat_tests), grind (arith, nat_tests))
 
   originator_below : (s : Subject) → within plan s ≡ true → originator_of s < plan.n
   originator_below (Item i k) h = (item_within i k h).0

@@ -1,3 +1,4 @@
+pub mod Counting
 pub mod Grid
 pub mod Sizes
 pub mod Wiping

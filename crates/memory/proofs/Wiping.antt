@@ -1,5 +1,5 @@
 -- The front of a list is overwritten, the rest stays. Assumes nothing.
-use Rattle.std.proofs.Common.{◌≡◌, ℕ, zero, suc, ◌+◌, ◌<◌, ◌≤◌, List, [], ◌∷◌, length, get_or, set, sym, refl, ap, ◌∙◌, add-one, arith}
+use Rattle.std.proofs.Common.{◌≡◌, ℕ, zero, suc, ◌+◌, ◌<◌, min, List, [], ◌∷◌, ◌++◌, length, take, drop, get_or, set, sym, refl, ap, ◌∙◌, add-one, arith}
 use Rattle.memory.specs.Contents.{wiped}
 
 module _ {X : Type 0} (x : X) where
@@ -17,15 +17,15 @@ module _ {X : Type 0} (x : X) where
   pub wiped_more : (i : ℕ) (xs : List X) → i < length xs → set (wiped i x xs) i x ≡ wiped (i + 1) x xs
   wiped_more i xs lt = wiped_suc i xs lt ∙ ap (λ (k : ℕ). wiped k x xs) (sym (add-one i))
 
-  pub wiped_past : (n m : ℕ) (xs : List X) → length xs ≤ n → length xs ≤ m → wiped n x xs ≡ wiped m x xs
+  -- a loop over the front alone
+  pub wiped_front : (n m : ℕ) (xs : List X) → n ≡ min m (length xs) → wiped n x (take n xs) ++ drop n xs ≡ wiped m x xs
   unfolding wiped
-  wiped_past zero zero xs p q = refl
-  wiped_past zero (suc m) [] p q = refl
-  wiped_past zero (suc m) (y ∷ xs) p q = absurd (omega arith)
-  wiped_past (suc n) zero [] p q = refl
-  wiped_past (suc n) zero (y ∷ xs) p q = absurd (omega arith)
-  wiped_past (suc n) (suc m) [] p q = refl
-  wiped_past (suc n) (suc m) (y ∷ xs) p q = ap (λ (ys : List X). x ∷ ys) (wiped_past n m xs (omega arith) (omega arith))
+  wiped_front zero zero xs e = refl
+  wiped_front zero (suc m) [] e = refl
+  wiped_front zero (suc m) (y ∷ xs) e = absurd (omega arith)
+  wiped_front (suc n) zero xs e = absurd (omega arith)
+  wiped_front (suc n) (suc m) [] e = absurd (omega arith)
+  wiped_front (suc n) (suc m) (y ∷ xs) e = ap (λ (ys : List X). x ∷ ys) (wiped_front n m xs (omega arith))
 
   pub wiped_length : (n : ℕ) (xs : List X) → length (wiped n x xs) ≡ length xs
   unfolding wiped

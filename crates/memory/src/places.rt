@@ -1,7 +1,7 @@
 // Where memory keeps what one process knows of one subject.
 pub mod slots;
 
-#[derive(Clone, Copy)]
+#[derive(Clone, Copy, Debug, PartialEq, Eq)]
 pub struct Place {
     // Of the broadcast record.
     pub record: usize,

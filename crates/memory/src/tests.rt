@@ -48,10 +48,7 @@ fn records_fill_the_largest_plan(rt: HostRuntime) -> Result<(), Fail> {
         (u64::MAX, ballot(u64::MAX, u64::MAX, u64::MAX), None),
     ];
     for (process, subject, expected) in rows {
-        let found = match place_of(&plan, process, subject) {
-            Some(place) => Some(place.record),
-            None => None,
-        };
+        let found = place_of(&plan, process, subject).map(|place| place.record);
         assert_eq!(rt; found, expected);
     }
     let last = place_of(&plan, 15, ballot(15, 7, 48)).ok_or("no place")?;
@@ -85,13 +82,6 @@ fn each_part_may_be_too_short(rt: HostRuntime) -> Result<(), Fail> {
     Ok(())
 }
 
-fn is_readied(stage: Stage) -> bool {
-    match stage {
-        Stage::Readied => true,
-        _ => false,
-    }
-}
-
 #[test]
 fn clearing_ends_where_the_need_ends(rt: HostRuntime) -> Result<(), Fail> {
     let plan = Plan::new(1, 0, 1, 1, 1)?;
@@ -102,18 +92,19 @@ fn clearing_ends_where_the_need_ends(rt: HostRuntime) -> Result<(), Fail> {
         serials: &mut [3; 2],
     };
     clear(&plan, &mut memory);
-    assert!(rt; !is_readied(memory.stage(3)) && is_readied(memory.stage(4)));
+    assert_eq!(rt; memory.stage(3), Stage::Silent);
+    assert_eq!(rt; memory.stage(4), Stage::Readied);
     assert!(rt; memory.bodies.len() == 9);
     assert_eq!(rt; memory.bodies[7], None);
     assert_eq!(rt; memory.bodies[8], Some(7));
-    assert_eq!(rt; memory.case_record(0).round, 0);
-    assert_eq!(rt; memory.case_record(1).round, 9);
+    assert_eq!(rt; memory.case_record(0), CaseRecord::UNOPENED);
+    assert_eq!(rt; memory.case_record(1), OPENED);
     assert_eq!(rt; memory.next_serial(0), 0);
     assert_eq!(rt; memory.next_serial(1), 3);
     memory.set_next_serial(0, 1);
     memory.set_next_serial(2, 1);
     memory.set_case_record(0, OPENED);
     assert_eq!(rt; memory.next_serial(0), 1);
-    assert_eq!(rt; memory.case_record(0).round, 9);
+    assert_eq!(rt; memory.case_record(0), OPENED);
     Ok(())
 }

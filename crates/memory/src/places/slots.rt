@@ -17,7 +17,8 @@ pub fn is_within(plan: &Plan, subject: Subject) -> bool
             case,
             round,
         } => {
-            originator < plan.n() && case < plan.cases() && round >= 1 && round <= 3 * plan.phases()
+            let rounds = 1..=3 * plan.phases();
+            originator < plan.n() && case < plan.cases() && rounds.contains(&round)
         }
     }
 }
@@ -27,11 +28,8 @@ pub fn place_of(plan: &Plan, process: u64, subject: Subject) -> Option<Place>
     ensures value { result ≡ place_of plan.now process subject }
     ensures laid { Laid plan.now }
 {
-    if process < plan.n() && is_within(plan, subject) {
-        Some(locate(plan, process, subject))
-    } else {
-        None
-    }
+    let exists = process < plan.n() && is_within(plan, subject);
+    exists.then(|| locate(plan, process, subject))
 }
 
 fn locate(plan: &Plan, process: u64, subject: Subject) -> Place
@@ -70,9 +68,6 @@ pub fn case_place(plan: &Plan, process: u64, case: u64) -> Option<usize>
     ensures value { result ≡ case_place_of plan.now process case }
     ensures laid { Laid plan.now }
 {
-    if process < plan.n() && case < plan.cases() {
-        Some((process * plan.cases() + case) as usize)
-    } else {
-        None
-    }
+    let exists = process < plan.n() && case < plan.cases();
+    exists.then(|| (process * plan.cases() + case) as usize)
 }

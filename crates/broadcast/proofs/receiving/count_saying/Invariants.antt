@@ -1,6 +1,6 @@
-use Rattle.std.proofs.Common.{◌≡◌}
-use Rattle.broadcast.specs.Hearing.{saying}
+use Rattle.std.proofs.Common.{◌≡◌, count_by, take}
+use Rattle.broadcast.specs.Hearing.{says}
 use Rattle.broadcast.proofs.receiving.count_saying.Given as goal
 
-abbrev pub invariant-loop-sender : goal.invariant-loop-sender
-invariant-loop-sender l = l.count ≡ saying l.sender l.first l.body l.bodies
+abbrev pub invariant-loop-heard : goal.invariant-loop-heard
+invariant-loop-heard l = l.count ≡ count_by (says l.body) (take l.heard-index l.row)

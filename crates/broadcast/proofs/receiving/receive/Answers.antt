@@ -1,52 +1,41 @@
 use Rattle.std.proofs.Common.{length, ap, ◌∙◌, arith}
 use Rattle.memory.specs.Contents.{Held, held}
 use Rattle.broadcast.specs.Receiving.{outcome}
-use Rattle.broadcast.proofs.Admitted.{admitted}
+use Rattle.broadcast.proofs.Admitted.{Admitted, admitted}
 use Rattle.broadcast.proofs.Settled.{accepted_stays, settles}
 use Rattle.broadcast.proofs.receiving.receive.Goals as goal
+use Rattle.broadcast.proofs.receiving.receive.Goals.{In-Some}
+
+found : (c : In-Some) → Admitted c.args.plan.now c.args.process c.args.message.now (held c.args.memory.now) c.in-Some.place
+found c =
+    let known = c.in-Some.ensures in
+    admitted _ c.args.process _ (held c.args.memory.now) c.in-Some.place _ _ (omega arith) c.is_enough.ensures c.if-not-is_enough.false c.subject.ensures known.value known.laid
 
 pub returns-in-Accepted : goal.returns-in-Accepted
 returns-in-Accepted c =
-    let m = c.args.message.now in
-    let h = held c.args.memory.now in
-    let p = c.in-Some.place in
-    let known = c.in-Some.ensures in
-    let a = admitted c.args.plan.now c.args.process m h p _ _ (omega arith) c.is_enough.ensures c.if-not-is_enough.false c.subject.ensures known.value known.laid in
-    accepted_stays c.args.plan.now p m h c.in-Accepted.field-0 c.in-Accepted.ensures ∙ a.handles
+    accepted_stays c.args.plan.now c.in-Some.place c.args.message.now (held c.args.memory.now) c.in-Accepted.field-0 c.in-Accepted.ensures
+    ∙ (found (goal.at.returns-in-Accepted c).In-Some).handles
 
 pub listen-count-requires : goal.listen-count-requires
-listen-count-requires c =
-    let m = c.args.message.now in
-    let h = held c.args.memory.now in
-    let known = c.in-Some.ensures in
-    let a = admitted c.args.plan.now c.args.process m h c.in-Some.place _ _ (omega arith) c.is_enough.ensures c.if-not-is_enough.false c.subject.ensures known.value known.laid in
-    record { known = omega arith; echoes = a.echoes; readies = a.readies }
+listen-count-requires c = let a = found (goal.at.listen-count-requires c).In-Some in record { known = omega arith; echoes = a.echoes; readies = a.readies }
 
 pub turn_stage-requires : goal.turn_stage-requires
 turn_stage-requires c =
-    let m = c.args.message.now in
-    let h = held c.args.memory.now in
-    let known = c.in-Some.ensures in
-    let a = admitted c.args.plan.now c.args.process m h c.in-Some.place _ _ (omega arith) c.is_enough.ensures c.if-not-is_enough.false c.subject.ensures known.value known.laid in
+    let a = found (goal.at.turn_stage-requires c).In-Some in
     record {
-      inside = omega (arith, a.at, ap (λ (x : Held). length x.broadcasts) c.listen-count.ensures.held);
+      inside = omega (arith, ap (λ (x : Held). length x.broadcasts) c.listen-count.ensures.held);
       ordered = omega (arith, c.thresholds.ensures.sound.enough);
     }
 
 pub returns : goal.returns
 returns c =
-    let m = c.args.message.now in
-    let h = held c.args.memory.now in
-    let p = c.in-Some.place in
-    let known = c.in-Some.ensures in
     let after = held c.listen-count.new.memory in
-    let a = admitted c.args.plan.now c.args.process m h p _ _ (omega arith) c.is_enough.ensures c.if-not-is_enough.false c.subject.ensures known.value known.laid in
     (λ i.
     outcome (record { broadcasts = c.turn_stage.ensures.stage i; bodies = after.bodies; cases = after.cases; serials = after.serials })
     (c.turn_stage.ensures.reaction i))
-    ∙ settles c.args.plan.now p m h c.thresholds.result c.listen-count.result after
+    ∙ settles c.args.plan.now c.in-Some.place c.args.message.now (held c.args.memory.now) c.thresholds.result c.listen-count.result after
     (λ b e. c.in_default-stage.not-Accepted b (c.stage.ensures ∙ e))
     c.thresholds.ensures.value
     c.listen-count.ensures.held
     c.listen-count.ensures.count
-    ∙ a.handles
+    ∙ (found (goal.at.returns c).In-Some).handles
