@@ -5,8 +5,8 @@ ghost use Rattle.rules.specs.Runs.{Aside};
 ghost use Rattle.slips.specs.Slips.{GivenBack, Spent};
 
 use crate::slip::ReleaseSlip;
-use line::check_process;
-use memory::{CaseRecord, Memory, Slip, case_place};
+use line::{check_process, find_case};
+use memory::{CaseRecord, Memory, Slip};
 use plan::Line;
 use protocol::Refusal;
 
@@ -45,10 +45,10 @@ fn give_back(
     ensures aside { Aside (held memory.old) (held memory.new) }
 {
     let ReleaseSlip { process, case } = slip;
-    match spend(line, memory, process, case, state) {
-        Ok(()) => Ok(()),
-        Err(refusal) => Err((refusal, ReleaseSlip { process, case })),
-    }
+    spend(line, memory, process, case, state).map_err(|refusal| (
+        refusal,
+        ReleaseSlip { process, case },
+    ))
 }
 
 // Leaves the state of a slip that is out.
@@ -63,13 +63,11 @@ fn spend(
     ensures aside { Aside (held memory.old) (held memory.new) }
 {
     check_process(line, memory, process)?;
-    let Some(at) = case_place(&line.plan(), process, case) else {
-        return Err(Refusal::SubjectOutOfPlan);
-    };
+    let at = find_case(line, process, case)?;
     let record = memory.case_record(at);
-    let Slip::Out = record.slip else {
+    if record.slip != Slip::Out {
         return Err(Refusal::SlipRefused);
-    };
+    }
     memory.set_case_record(
         at,
         CaseRecord {

@@ -5,8 +5,8 @@ ghost use Rattle.rules.specs.Runs.{Aside};
 ghost use Rattle.slips.specs.Slips.{may_issue, back_refusal, Issued, Truthful};
 
 use crate::slip::ReleaseSlip;
-use line::check_correct;
-use memory::{CaseRecord, Memory, Slip, case_place};
+use line::{check_correct, find_case};
+use memory::{CaseRecord, Memory, Slip};
 use plan::Line;
 use protocol::{Refusal, Side};
 
@@ -23,9 +23,7 @@ pub fn issue(
     ensures truthful { Truthful line.now (held memory.old) process case result }
 {
     check_correct(line, memory, process)?;
-    let Some(at) = case_place(&line.plan(), process, case) else {
-        return Err(Refusal::SubjectOutOfPlan);
-    };
+    let at = find_case(line, process, case)?;
     let record = memory.case_record(at);
     if !may_issue(record) {
         return Err(Refusal::SlipRefused);
@@ -44,13 +42,10 @@ pub fn issue(
 fn may_issue(record: CaseRecord) -> bool
     ensures { result ≡ may_issue «record» }
 {
-    let Some(decision) = record.decision else {
-        return false;
-    };
-    match (decision.side, record.slip) {
-        (Side::Release, Slip::Absent) => true,
-        _ => false,
-    }
+    let released = record
+        .decision
+        .is_some_and(|decision| decision.side == Side::Release);
+    released && record.slip == Slip::Absent
 }
 
 impl ReleaseSlip {
