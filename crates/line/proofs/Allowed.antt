@@ -1,6 +1,6 @@
 -- Why forging is refused, test by test. Assumes nothing.
-use Rattle.std.proofs.Common.{◌≡◌, ℕ, ◌-◌, ◌<◌, ◌≤◌, Bool, true, false, ◌&&◌, ltb, leb, List, length, Some, None, Option, sym, refl, ap, ◌∙◌, arith}
-use Rattle.std.proofs.lemmas.Bool.{cond-true, cond-false, lt-ltb, le-ltb, le-leb}
+use Rattle.std.proofs.Common.{◌≡◌, ℕ, ◌-◌, ◌≤◌, Bool, true, false, ◌&&◌, ltb, leb, List, length, Some, None, Option, sym, refl, ap, ◌∙◌}
+use Rattle.std.proofs.lemmas.Bool.{cond-false, le-ltb}
 use Rattle.protocol.specs.declared.messages.Message.{Message}
 use Rattle.protocol.specs.declared.refusals.Refusal.{Refusal}
 use Rattle.protocol.specs.declared.refusals.Refusal.TheVariants.{MemoryTooSmall, ProcessOutOfRange, WrongRole, SubjectOutOfPlan, NoRoom}
@@ -34,8 +34,3 @@ module _ (line : Line) (capacity : ℕ) (h : Held) (ws : List Message) where
 
       pub not_to : line.plan.n ≤ m.addressee → refusal line capacity h ws (Forge m) ≡ Some ProcessOutOfRange
       not_to le = from_known ∙ cond-false _ _ _ (le-ltb m.addressee line.plan.n le)
-
-      module _ (to : m.addressee < line.plan.n) where
-        ends_known : refusal line capacity h ws (Forge m) ≡ tests
-        ends_known = from_known ∙ cond-true _ _ _ (lt-ltb m.addressee line.plan.n to)
-

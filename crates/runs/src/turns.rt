@@ -13,7 +13,7 @@ pub enum Turn<I> {
 }
 
 // What a turn that was done answers. To open a case and to forge answer how many messages were posted.
-#[derive(Clone, Copy)]
+#[derive(Clone, Copy, Debug, PartialEq, Eq)]
 pub enum Answer {
     Announced(Announced),
     Posted(u64),

@@ -1,12 +1,12 @@
 // Reading a value of any item type.
 ghost use Rattle.std.specs.Prelude.{◌≡◌};
-ghost use Rattle.memory.specs.Contents.{held, accepted_body};
+ghost use Rattle.memory.specs.Contents.{held};
 ghost use Rattle.reading.specs.Answers.{Located, answer, Alike};
 
 use crate::readings::Reading;
 use item::Item;
 use line::check_correct;
-use memory::{Memory, Stage, place_of};
+use memory::{Memory, place_of};
 use plan::Line;
 use protocol::{Refusal, Subject};
 
@@ -21,7 +21,7 @@ pub fn read<I: Item>(
     ensures alike { Alike I.Item.unpacked line.now (held memory.now) process subject result }
 {
     let at = locate(line, memory, process, subject)?;
-    let Some(body) = accepted_body(memory.stage(at)) else {
+    let Some(body) = memory.stage(at).accepted() else {
         return Ok(Reading::Nothing);
     };
     let Some(value) = I::unpack(body) else {
@@ -35,17 +35,6 @@ fn locate(line: &Line, memory: &Memory, process: u64, subject: Subject) -> Resul
     ensures { Located line.now (held memory.now) process subject result }
 {
     check_correct(line, memory, process)?;
-    match place_of(&line.plan(), process, subject) {
-        Some(place) => Ok(place.record),
-        None => Err(Refusal::SubjectOutOfPlan),
-    }
-}
-
-fn accepted_body(stage: Stage) -> Option<u64>
-    ensures { result ≡ accepted_body stage }
-{
-    match stage {
-        Stage::Accepted(body) => Some(body),
-        _ => None,
-    }
+    let place = place_of(&line.plan(), process, subject).ok_or(Refusal::SubjectOutOfPlan)?;
+    Ok(place.record)
 }
