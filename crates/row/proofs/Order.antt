@@ -1,8 +1,8 @@
 -- Which message is taken. Assumes nothing.
-use Rattle.std.proofs.Common.{◌≡◌, ℕ, zero, suc, ◌+◌, ◌-◌, ◌<◌, ◌≤◌, true, false, List, [], ◌∷◌, ◌++◌, length, get_or, drop, IfOk, Some, Ok, Err, Result, sym, refl, ap, ◌∙◌, subst, ⊎_elim, arith}
-use Rattle.std.specs.List.{remove, slice_get}
-use Rattle.std.proofs.lemmas.List.{at_drop_more, at_drop_all}
-use Rattle.std.proofs.lemmas.Option.{slice_get_past}
+use Rattle.std.proofs.Common.{◌≡◌, ℕ, zero, suc, ◌+◌, ◌<◌, ◌≤◌, Bool, true, false, cond, List, [], ◌∷◌, length, get_or, IfOk, Some, None, Option, Ok, Err, Result, sym, refl, ap, ◌∙◌, subst, ⊎_elim, add-zero, zero-add, arith}
+use Rattle.std.specs.List.{remove, slice_get, enumerate_from, filter_map, cons_option}
+use Rattle.std.specs.Option.{option_map}
+use Rattle.std.proofs.lemmas.Option.{slice_get_past, slice_get_cases, none-some, cond_some}
 use Rattle.std.proofs.lemmas.Bool.{eqb-true, cond-true, cond-false, cases_Bool, cases_lt}
 use Rattle.protocol.specs.declared.messages.Message.{Message}
 use Rattle.protocol.specs.declared.refusals.Refusal.{Refusal}
@@ -11,7 +11,7 @@ use Rattle.protocol.specs.Bags.{Same}
 use Rattle.protocol.proofs.Bags.{count_none, count_cons}
 use Rattle.carrier.specs.Waiting.{addressed, waiting_for, Taken}
 use Rattle.carrier.proofs.Counts.{counted}
-use Rattle.row.specs.Order.{place, found, answer_at, left_at, pushed, TookAt}
+use Rattle.row.specs.Order.{place, standing, found, answer_at, left_at, TookAt}
 use Rattle.row.proofs.Places.{removed_past}
 
 module _ (process : ℕ) (m : Message) (ms : List Message) where
@@ -32,21 +32,46 @@ place_none : (process k : ℕ) → place process k [] ≡ 0
 unfolding place
 place_none process k = refl
 
--- a loop's steps
-module _ (process : ℕ) (ms : List Message) (i : ℕ) (d : Message) (within : i < length ms) where
-  pub drop_here : addressed process (get_or ms i d) ≡ true → place process 0 (drop i ms) ≡ 0
-  drop_here h = at_drop_more (place process 0) ms i d within ∙ place_here process _ _ h
+-- the number of a message for the process
+abbrev pub numbered_at : ℕ → ℕ × Message → Option ℕ
+numbered_at process p = cond (addressed process p.1) (Some p.0) None
 
-  pub drop_skip : (k : ℕ) → 0 < k → addressed process (get_or ms i d) ≡ true → place process k (drop i ms) ≡ suc (place process (k - 1) (drop (i + 1) ms))
-  drop_skip k pos h =
-      let e : k ≡ suc (k - 1) = omega arith in
-      ap (λ (j : ℕ). place process j (drop i ms)) e ∙ at_drop_more (place process (suc (k - 1))) ms i d within ∙ place_skip process _ _ (k - 1) h
+-- those of all, where the first has number i
+abbrev numbered : ℕ → ℕ → List Message → List ℕ
+numbered process i ms = filter_map (numbered_at process) (enumerate_from i ms)
 
-  pub drop_pass : (k : ℕ) → addressed process (get_or ms i d) ≡ false → place process k (drop i ms) ≡ suc (place process k (drop (i + 1) ms))
-  drop_pass k h = at_drop_more (place process k) ms i d within ∙ place_pass process _ _ k h
+standing_from : (process i k : ℕ) (ms : List Message) → slice_get (numbered process i ms) k ≡ option_map (λ _. i + place process k ms) (slice_get ms (place process k ms))
+unfolding place
+standing_from process i k [] = refl
+standing_from process i k (m ∷ ms) = step (addressed process m) k (λ j. standing_from process (i + 1) j ms) where
+  later : (n : ℕ) → option_map (λ _. i + 1 + n) (slice_get ms n) ≡ option_map (λ _. i + suc n) (slice_get ms n)
+  later n = let e : i + 1 + n ≡ i + suc n = omega arith in ap (λ (j : ℕ). option_map (λ _. j) (slice_get ms n)) e
 
-pub drop_none : (process k : ℕ) (ms : List Message) (i : ℕ) → length ms ≤ i → place process k (drop i ms) ≡ 0
-drop_none process k ms i h = at_drop_all (place process k) ms i h ∙ place_none process k
+  At : Bool → ℕ → Type 0
+  At b k =
+      let n = elim k as (λ _. ℕ) [ zero ↦ cond b 0 (suc (place process zero ms)) | suc j ↦ suc (place process (cond b j (suc j)) ms) ] in
+      slice_get (cons_option (cond b (Some i) None) (numbered process (i + 1) ms)) k ≡ option_map (λ _. i + n) (slice_get (m ∷ ms) n)
+
+  step : (b : Bool) (k : ℕ) → ((j : ℕ) → slice_get (numbered process (i + 1) ms) j ≡ option_map (λ _. i + 1 + place process j ms) (slice_get ms (place process j ms))) → At b k
+  step true zero h = ap Some (sym (add-zero i))
+  step true (suc k) h = h k ∙ later (place process k ms)
+  step false zero h = h zero ∙ later (place process zero ms)
+  step false (suc k) h = h (suc k) ∙ later (place process (suc k) ms)
+
+pub standing_is : (process k : ℕ) (ms : List Message) → slice_get (numbered process 0 ms) k ≡ standing process k ms
+standing_is process k ms = standing_from process 0 k ms ∙ ap (λ (j : ℕ). option_map (λ _. j) (slice_get ms (place process k ms))) (zero-add (place process k ms))
+
+module _ (process k : ℕ) (ms : List Message) where
+  pub standing_some : (at : ℕ) → standing process k ms ≡ Some at → (place process k ms ≡ at) × (at < length ms)
+  standing_some at h = ⊎_elim here none (slice_get_cases ms (place process k ms)).1 where
+    here : (x : Message) × (place process k ms < length ms) × (slice_get ms (place process k ms) ≡ Some x) × (get_or ms (place process k ms) x ≡ x) → (place process k ms ≡ at) × (at < length ms)
+    here w = let e : place process k ms ≡ at = (cond_some true _ _ (sym (ap (option_map (λ _. place process k ms)) w.2) ∙ h)).1 in (e, omega arith)
+
+    none : (length ms ≤ place process k ms) × (slice_get ms (place process k ms) ≡ None) → (place process k ms ≡ at) × (at < length ms)
+    none w = absurd (none-some at (sym (ap (option_map (λ _. place process k ms)) w.1) ∙ h))
+
+  pub standing_none : standing process k ms ≡ None → length ms ≤ place process k ms
+  standing_none h = ⊎_elim (λ w. absurd (none-some _ (sym h ∙ ap (option_map (λ _. place process k ms)) w.2))) (λ w. w.0) (slice_get_cases ms (place process k ms)).1
 
 -- a message for the process stands at i
 record Out (process : ℕ) (ms : List Message) (i : ℕ) : Type 0 where
@@ -118,11 +143,7 @@ pub lawful : (process k : ℕ) (ms : List Message) (r : Result Message Refusal) 
 lawful process k ms r after h e f =
     subst (λ a. Taken a process ms after) (sym e) (subst (Taken (answer_at process k ms) process ms) (sym f) (chosen process k ms h))
 
--- what posting and taking say in the carriers' words
-pub joins : (r : Result (Unit {0}) Refusal) (ms : List Message) (m : Message) (after : List Message) → after ≡ pushed r ms m → IfOk r (λ _. after ≡ ms ++ (m ∷ []))
-joins (Ok _) ms m after e = e
-joins (Err x) ms m after e = tt
-
+-- what taking says in the carriers' words
 pub took : (process k : ℕ) (ms : List Message) (r : Result Message Refusal) (after : List Message) → r ≡ answer_at process k ms → after ≡ left_at process k ms → IfOk r (λ m. TookAt process k ms m after)
 took process k ms (Ok m) after e f = record { taken = sym e; left = f }
 took process k ms (Err x) after e f = tt
