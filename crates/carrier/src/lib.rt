@@ -54,10 +54,5 @@ pub fn is_idle<C: Carrier>(carrier: &C) -> bool
     ensures value { result ≡ (length (C.waiting carrier.now) == 0) }
     ensures none { result ≡ true → C.waiting carrier.now ≡ [] }
 {
-    for process in 0..PROCESSES {
-        if carrier.waiting_for(process) > 0 {
-            return false;
-        }
-    }
-    true
+    (0..PROCESSES).all(|process| carrier.waiting_for(process) == 0)
 }

@@ -1,10 +1,8 @@
 // Three carriers over lent memory, a place for each message. They differ in which message they take.
 #![tactic(auto)]
 
-pub mod baskets;
-pub mod piles;
-pub mod queues;
+pub mod choices;
+pub mod ordered;
 
-pub use baskets::Basket;
-pub use piles::Pile;
-pub use queues::Queue;
+pub use choices::{Choice, Newest, Oldest, Picked};
+pub use ordered::{Basket, Ordered, Pile, Queue};

@@ -1,52 +1,59 @@
 -- Which message is taken. Assumes nothing.
-use Rattle.std.proofs.Common.{◌≡◌, ℕ, zero, suc, ◌+◌, ◌-◌, ◌<◌, ◌≤◌, true, false, List, [], ◌∷◌, ◌++◌, length, get_or, drop, IfOk, Some, Ok, Err, Result, sym, refl, ap, ◌∙◌, subst, ⊎_elim, arith}
-use Rattle.std.specs.List.{remove, slice_get}
-use Rattle.std.proofs.lemmas.List.{at_drop_more, at_drop_all}
-use Rattle.std.proofs.lemmas.Option.{slice_get_past}
-use Rattle.std.proofs.lemmas.Bool.{eqb-true, cond-true, cond-false, cases_Bool, cases_lt}
+use Rattle.std.proofs.Common.{◌≡◌, ℕ, zero, suc, ◌+◌, ◌<◌, ◌≤◌, Bool, true, false, cond, List, [], ◌∷◌, length, get_or, Some, None, Option, Err, Result, sym, refl, ap, ◌∙◌, subst, ⊎_elim, add-zero, zero-add, arith}
+use Rattle.std.specs.List.{remove, slice_get, enumerate_from, filter_map, cons_option}
+use Rattle.std.specs.Option.{option_map}
+use Rattle.std.proofs.lemmas.Option.{slice_get_past, slice_get_cases, none-some, cond_some}
+use Rattle.std.proofs.lemmas.Bool.{eqb-true, cases_lt}
 use Rattle.protocol.specs.declared.messages.Message.{Message}
 use Rattle.protocol.specs.declared.refusals.Refusal.{Refusal}
 use Rattle.protocol.specs.declared.refusals.Refusal.TheVariants.{NothingWaiting}
-use Rattle.protocol.specs.Bags.{Same}
-use Rattle.protocol.proofs.Bags.{count_none, count_cons}
+use Rattle.protocol.specs.Bags.{count, Same}
+use Rattle.protocol.proofs.Bags.{count_cons}
 use Rattle.carrier.specs.Waiting.{addressed, waiting_for, Taken}
-use Rattle.carrier.proofs.Counts.{counted}
-use Rattle.row.specs.Order.{place, found, answer_at, left_at, pushed, TookAt}
+use Rattle.row.specs.Order.{place, standing, found, answer_at, left_at}
 use Rattle.row.proofs.Places.{removed_past}
 
-module _ (process : ℕ) (m : Message) (ms : List Message) where
-  place_here : addressed process m ≡ true → place process 0 (m ∷ ms) ≡ 0
-  unfolding place
-  place_here h = cond-true (addressed process m) 0 _ h
+-- the place in a list of one message more, where b says whether that one is for the process
+abbrev below : ℕ → List Message → Bool → ℕ → ℕ
+below process ms b zero = cond b 0 (suc (place process zero ms))
+below process ms b (suc k) = suc (place process (cond b k (suc k)) ms)
 
-  place_skip : (k : ℕ) → addressed process m ≡ true → place process (suc k) (m ∷ ms) ≡ suc (place process k ms)
-  unfolding place
-  place_skip k h = ap (λ (j : ℕ). suc (place process j ms)) (cond-true (addressed process m) k (suc k) h)
+-- the number of a message for the process
+abbrev pub numbered_at : ℕ → ℕ × Message → Option ℕ
+numbered_at process p = cond (addressed process p.1) (Some p.0) None
 
-  place_pass : (k : ℕ) → addressed process m ≡ false → place process k (m ∷ ms) ≡ suc (place process k ms)
-  unfolding place
-  place_pass zero h = cond-false (addressed process m) 0 _ h
-  place_pass (suc k) h = ap (λ (j : ℕ). suc (place process j ms)) (cond-false (addressed process m) k (suc k) h)
+-- those of all, where the first has number i
+abbrev numbered : ℕ → ℕ → List Message → List ℕ
+numbered process i ms = filter_map (numbered_at process) (enumerate_from i ms)
 
-place_none : (process k : ℕ) → place process k [] ≡ 0
+standing_from : (process i k : ℕ) (ms : List Message) → slice_get (numbered process i ms) k ≡ option_map (λ _. i + place process k ms) (slice_get ms (place process k ms))
 unfolding place
-place_none process k = refl
+standing_from process i k [] = refl
+standing_from process i k (m ∷ ms) = step (addressed process m) k (λ j. standing_from process (i + 1) j ms) where
+  later : (n : ℕ) → option_map (λ _. i + 1 + n) (slice_get ms n) ≡ option_map (λ _. i + suc n) (slice_get ms n)
+  later n = let e : i + 1 + n ≡ i + suc n = omega arith in ap (λ (j : ℕ). option_map (λ _. j) (slice_get ms n)) e
 
--- a loop's steps
-module _ (process : ℕ) (ms : List Message) (i : ℕ) (d : Message) (within : i < length ms) where
-  pub drop_here : addressed process (get_or ms i d) ≡ true → place process 0 (drop i ms) ≡ 0
-  drop_here h = at_drop_more (place process 0) ms i d within ∙ place_here process _ _ h
+  step : (b : Bool) (k : ℕ) → ((j : ℕ) → slice_get (numbered process (i + 1) ms) j ≡ option_map (λ _. i + 1 + place process j ms) (slice_get ms (place process j ms)))
+      → slice_get (cons_option (cond b (Some i) None) (numbered process (i + 1) ms)) k ≡ option_map (λ _. i + below process ms b k) (slice_get (m ∷ ms) (below process ms b k))
+  step true zero h = ap Some (sym (add-zero i))
+  step true (suc k) h = h k ∙ later (place process k ms)
+  step false zero h = h zero ∙ later (place process zero ms)
+  step false (suc k) h = h (suc k) ∙ later (place process (suc k) ms)
 
-  pub drop_skip : (k : ℕ) → 0 < k → addressed process (get_or ms i d) ≡ true → place process k (drop i ms) ≡ suc (place process (k - 1) (drop (i + 1) ms))
-  drop_skip k pos h =
-      let e : k ≡ suc (k - 1) = omega arith in
-      ap (λ (j : ℕ). place process j (drop i ms)) e ∙ at_drop_more (place process (suc (k - 1))) ms i d within ∙ place_skip process _ _ (k - 1) h
+pub standing_is : (process k : ℕ) (ms : List Message) → slice_get (numbered process 0 ms) k ≡ standing process k ms
+standing_is process k ms = standing_from process 0 k ms ∙ ap (λ (j : ℕ). option_map (λ _. j) (slice_get ms (place process k ms))) (zero-add (place process k ms))
 
-  pub drop_pass : (k : ℕ) → addressed process (get_or ms i d) ≡ false → place process k (drop i ms) ≡ suc (place process k (drop (i + 1) ms))
-  drop_pass k h = at_drop_more (place process k) ms i d within ∙ place_pass process _ _ k h
+module _ (process k : ℕ) (ms : List Message) where
+  pub standing_some : (at : ℕ) → standing process k ms ≡ Some at → (place process k ms ≡ at) × (at < length ms)
+  standing_some at h = ⊎_elim here none (slice_get_cases ms (place process k ms)).1 where
+    here : (x : Message) × (place process k ms < length ms) × (slice_get ms (place process k ms) ≡ Some x) × (get_or ms (place process k ms) x ≡ x) → (place process k ms ≡ at) × (at < length ms)
+    here w = let e : place process k ms ≡ at = (cond_some true _ _ (sym (ap (option_map (λ _. place process k ms)) w.2) ∙ h)).1 in (e, omega arith)
 
-pub drop_none : (process k : ℕ) (ms : List Message) (i : ℕ) → length ms ≤ i → place process k (drop i ms) ≡ 0
-drop_none process k ms i h = at_drop_all (place process k) ms i h ∙ place_none process k
+    none : (length ms ≤ place process k ms) × (slice_get ms (place process k ms) ≡ None) → (place process k ms ≡ at) × (at < length ms)
+    none w = absurd (none-some at (sym (ap (option_map (λ _. place process k ms)) w.1) ∙ h))
+
+  pub standing_none : standing process k ms ≡ None → length ms ≤ place process k ms
+  standing_none h = ⊎_elim (λ w. absurd (none-some _ (sym h ∙ ap (option_map (λ _. place process k ms)) w.2))) (λ w. w.0) (slice_get_cases ms (place process k ms)).1
 
 -- a message for the process stands at i
 record Out (process : ℕ) (ms : List Message) (i : ℕ) : Type 0 where
@@ -70,35 +77,31 @@ module _ (process : ℕ) (m : Message) (ms : List Message) where
         same = λ p. omega (arith, o.same p, count_cons p m ms, count_cons p x rest, count_cons p x (m ∷ rest), count_cons p m rest);
       }
 
-  passed : addressed process m ≡ false → waiting_for process (m ∷ ms) ≡ waiting_for process ms
-  passed h = count_cons (addressed process) m ms ∙ ap (λ (n : ℕ). n + waiting_for process ms) (cond-false (addressed process m) 1 0 h) ∙ omega arith
-
-  met : addressed process m ≡ true → waiting_for process (m ∷ ms) ≡ 1 + waiting_for process ms
-  met h = counted (addressed process) m ms h
-
 out : (process k : ℕ) (ms : List Message) → k < waiting_for process ms → Out process ms (place process k ms)
-out process k [] h = absurd (omega (arith, count_none (addressed process)))
-out process zero (m ∷ ms) h =
-    ⊎_elim (λ t. subst (Out process (m ∷ ms)) (sym (place_here process m ms t)) (out_first process m ms t))
-    (λ f. subst (Out process (m ∷ ms)) (sym (place_pass process m ms 0 f)) (out_later process m ms _ (out process 0 ms (omega (arith, passed process m ms f)))))
-    (cases_Bool (addressed process m))
-out process (suc k) (m ∷ ms) h =
-    ⊎_elim (λ t. subst (Out process (m ∷ ms)) (sym (place_skip process m ms k t)) (out_later process m ms _ (out process k ms (omega (arith, met process m ms t)))))
-    (λ f. subst (Out process (m ∷ ms)) (sym (place_pass process m ms (suc k) f)) (out_later process m ms _ (out process (suc k) ms (omega (arith, passed process m ms f)))))
-    (cases_Bool (addressed process m))
+unfolding place count
+out process k [] h = absurd (omega arith)
+out process k (m ∷ ms) h = step (addressed process m) refl k h (λ j. out process j ms) where
+  step : (b : Bool) → addressed process m ≡ b → (k : ℕ) → k < cond b 1 0 + waiting_for process ms → ((j : ℕ) → j < waiting_for process ms → Out process ms (place process j ms)) → Out process (m ∷ ms) (below process ms b k)
+  step true e zero h rest = out_first process m ms e
+  step true e (suc k) h rest = out_later process m ms _ (rest k (omega arith))
+  step false e zero h rest = out_later process m ms _ (rest zero (omega arith))
+  step false e (suc k) h rest = out_later process m ms _ (rest (suc k) (omega arith))
 
 past : (process k : ℕ) (ms : List Message) → waiting_for process ms ≡ 0 → place process k ms ≡ length ms
-past process k [] h = place_none process k
-past process k (m ∷ ms) h =
-    ⊎_elim (λ t. absurd (omega (arith, met process m ms t)))
-    (λ f. place_pass process m ms k f ∙ ap suc (past process k ms (sym (passed process m ms f) ∙ h))) (cases_Bool (addressed process m))
+unfolding place count
+past process k [] h = refl
+past process k (m ∷ ms) h = step (addressed process m) k h (λ j. past process j ms) where
+  step : (b : Bool) (k : ℕ) → cond b 1 0 + waiting_for process ms ≡ 0 → ((j : ℕ) → waiting_for process ms ≡ 0 → place process j ms ≡ length ms) → below process ms b k ≡ length (m ∷ ms)
+  step true k h rest = absurd (omega arith)
+  step false zero h rest = ap suc (rest zero (omega arith))
+  step false (suc k) h rest = ap suc (rest (suc k) (omega arith))
 
 -- nothing can be taken
 module _ (process k : ℕ) (ms : List Message) (none : waiting_for process ms ≡ 0) where
-  pub none_answer : answer_at process k ms ≡ Err NothingWaiting
+  none_answer : answer_at process k ms ≡ Err NothingWaiting
   none_answer = ap found (ap (slice_get ms) (past process k ms none) ∙ slice_get_past ms (length ms) (omega arith))
 
-  pub none_left : left_at process k ms ≡ ms
+  none_left : left_at process k ms ≡ ms
   none_left = ap (remove ms) (past process k ms none) ∙ removed_past ms (length ms) (omega arith)
 
 -- a choice among those that wait for the process is lawful
@@ -117,12 +120,3 @@ chosen process k ms h = ⊎_elim some none (cases_lt 0 (waiting_for process ms))
 pub lawful : (process k : ℕ) (ms : List Message) (r : Result Message Refusal) (after : List Message) → (0 < waiting_for process ms → k < waiting_for process ms) → r ≡ answer_at process k ms → after ≡ left_at process k ms → Taken r process ms after
 lawful process k ms r after h e f =
     subst (λ a. Taken a process ms after) (sym e) (subst (Taken (answer_at process k ms) process ms) (sym f) (chosen process k ms h))
-
--- what posting and taking say in the carriers' words
-pub joins : (r : Result (Unit {0}) Refusal) (ms : List Message) (m : Message) (after : List Message) → after ≡ pushed r ms m → IfOk r (λ _. after ≡ ms ++ (m ∷ []))
-joins (Ok _) ms m after e = e
-joins (Err x) ms m after e = tt
-
-pub took : (process k : ℕ) (ms : List Message) (r : Result Message Refusal) (after : List Message) → r ≡ answer_at process k ms → after ≡ left_at process k ms → IfOk r (λ m. TookAt process k ms m after)
-took process k ms (Ok m) after e f = record { taken = sym e; left = f }
-took process k ms (Err x) after e f = tt

@@ -2,6 +2,7 @@
 use Rattle.std.specs.Prelude.{◌≡◌, ℕ, zero, suc, ◌-◌, ◌%◌, ◌≤◌, cond, List, [], ◌∷◌, ◌++◌, length, take, Some, None, Ok, Err, Option, Result}
 use Rattle.std.proofs.Common.{arith, length-take}
 use Rattle.std.specs.List.{remove, slice_get}
+use Rattle.std.specs.Option.{option_map}
 use Rattle.protocol.specs.declared.messages.Message.{Message}
 use Rattle.protocol.specs.declared.refusals.Refusal.{Refusal}
 use Rattle.protocol.specs.declared.refusals.Refusal.TheVariants.{NothingWaiting}
@@ -28,6 +29,10 @@ unfoldable pub place : ℕ → ℕ → List Message → ℕ
 place process k [] = 0
 place process zero (m ∷ ms) = cond (addressed process m) 0 (suc (place process zero ms))
 place process (suc k) (m ∷ ms) = suc (place process (cond (addressed process m) k (suc k)) ms)
+
+-- the same, if there are so many
+abbrev pub standing : ℕ → ℕ → List Message → Option ℕ
+standing process k ms = option_map (λ _. place process k ms) (slice_get ms (place process k ms))
 
 abbrev pub found : Option Message → Result Message Refusal
 found (Some m) = Ok m

@@ -1,4 +1,6 @@
 // The messages of a carrier over lent memory. Its functions stand below, since a clause there may cite definitions that name it.
+ghost use Rattle.std.specs.Prelude.{◌≤◌, length};
+
 use protocol::Message;
 
 pub mod methods;
@@ -8,4 +10,5 @@ pub mod methods;
 pub struct Row<'a> {
     places: &'a mut [Message],
     held: usize,
+    ghost within: { held ≤ length places.now },
 }

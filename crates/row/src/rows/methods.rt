@@ -1,14 +1,11 @@
 // What the carriers over lent memory do alike.
-ghost use Rattle.std.specs.Prelude.{◌≡◌, ◌-◌, ◌≤◌, [], length};
+ghost use Rattle.std.specs.Prelude.{◌≡◌, ◌-◌, ◌<◌, Some, [], length};
 ghost use Rattle.std.specs.List.{remove, slice_get};
 ghost use Rattle.carrier.specs.Waiting.{capped, waiting_for, Posted};
-ghost use Rattle.row.specs.Order.{listed, room, place, answer_at, left_at, pushed};
+ghost use Rattle.row.specs.Order.{listed, room, standing, answer_at, left_at, pushed};
 
 use crate::rows::Row;
 use protocol::{Message, Refusal};
-
-// Numbers of messages are answered up to this.
-const MOST: u64 = 4_294_967_295;
 
 impl<'a> Row<'a> {
     // Nothing waits yet.
@@ -19,39 +16,32 @@ impl<'a> Row<'a> {
         Row { places, held: 0 }
     }
 
-    // How many messages wait.
-    fn live(&self) -> usize
-        ensures value { result ≡ length (listed self.now) }
-        ensures within { result ≤ room self.now }
+    // The messages that wait, in order of posting.
+    fn waiting(&self) -> &[Message]
+        ensures { result.now ≡ listed self.now }
     {
-        self.held.min(self.places.len())
+        &self.places[..self.held]
     }
 
     pub fn free(&self) -> u32
         ensures { result ≡ capped (room self.now - length (listed self.now)) }
     {
-        let free = self.places.len() - self.live();
-        (free as u64).min(MOST) as u32
+        let free = self.places.len() - self.held;
+        u32::try_from(free).unwrap_or(u32::MAX)
     }
 
     // How many messages wait for a process.
     pub fn count_for(&self, process: u64) -> u64
         ensures { result ≡ waiting_for process (listed self.now) }
     {
-        let mut count = 0;
-        for at in 0..self.live() {
-            let message = self.places[at];
-            if message.addressee() == process {
-                count += 1;
-            }
-        }
-        count
+        let waiting = self.waiting().iter();
+        waiting.filter(|m| m.addressee() == process).count() as u64
     }
 
     pub fn waiting_for(&self, process: u64) -> u32
         ensures { result ≡ capped (waiting_for process (listed self.now)) }
     {
-        self.count_for(process).min(MOST) as u32
+        u32::try_from(self.count_for(process)).unwrap_or(u32::MAX)
     }
 
     pub fn post(&mut self, message: Message) -> Result<(), Refusal>
@@ -59,49 +49,36 @@ impl<'a> Row<'a> {
         ensures posted { Posted result message (room self.old) (listed self.old) (listed self.new) }
         ensures order { listed self.new ≡ pushed result (listed self.old) message }
     {
-        let live = self.live();
-        if live >= self.places.len() {
+        if self.held == self.places.len() {
             return Err(Refusal::NoRoom);
         }
-        self.places[live] = message;
-        self.held = live + 1;
+        self.places[self.held] = message;
+        self.held += 1;
         Ok(())
     }
 
     // Where that number, from 0, of the messages for a process stands, the oldest first.
-    fn find(&self, process: u64, number: u64) -> usize
-        ensures { result ≡ place process number (listed self.now) }
+    fn find(&self, process: u64, number: u64) -> Option<usize>
+        ensures { result ≡ standing process number (listed self.now) }
     {
-        let live = self.live();
-        let mut before = number;
-        for at in 0..live {
-            let message = self.places[at];
-            if message.addressee() == process {
-                if before == 0 {
-                    return at;
-                }
-                before -= 1;
-            }
-        }
-        live
+        self.waiting()
+            .iter()
+            .enumerate()
+            .filter_map(|(at, message)| (message.addressee() == process).then_some(at))
+            .nth(number as usize)
     }
 
     // Takes one message out. The later ones move a place down.
-    fn remove(&mut self, at: usize) -> Option<Message>
+    fn remove(&mut self, at: usize) -> Message
+        requires { at < length (listed self.old) }
         ensures room { room self.new ≡ room self.old }
-        ensures answer { result ≡ slice_get (listed self.old) at }
+        ensures answer { Some result ≡ slice_get (listed self.old) at }
         ensures left { listed self.new ≡ remove (listed self.old) at }
     {
-        let live = self.live();
-        if at >= live {
-            return None;
-        }
         let message = self.places[at];
-        for next in at + 1..live {
-            self.places[next - 1] = self.places[next];
-        }
-        self.held = live - 1;
-        Some(message)
+        self.places.copy_within(at + 1..self.held, at);
+        self.held -= 1;
+        message
     }
 
     // Takes that number, from 0, of the messages for a process, the oldest first.
@@ -110,7 +87,7 @@ impl<'a> Row<'a> {
         ensures answer { result ≡ answer_at process number (listed self.old) }
         ensures left { listed self.new ≡ left_at process number (listed self.old) }
     {
-        let at = self.find(process, number);
-        self.remove(at).ok_or(Refusal::NothingWaiting)
+        let at = self.find(process, number).ok_or(Refusal::NothingWaiting)?;
+        Ok(self.remove(at))
     }
 }

@@ -1,18 +1,13 @@
 use Rattle.std.proofs.Common.{[], ◌∷◌, ap, ◌∙◌, arith}
-use Rattle.std.proofs.lemmas.List.{length-set}
+use Rattle.std.proofs.lemmas.List.{length-take-le, take_more_set}
 use Rattle.protocol.specs.Bags.{count}
 use Rattle.protocol.proofs.Bags.{same_swap}
 use Rattle.row.specs.Order.{listed}
-use Rattle.row.proofs.Places.{push_live}
 use Rattle.row.proofs.rows.Row.post.Goals as goal
 
-pub returns : goal.returns
-returns c =
+pub returns-clause-posted : goal.returns-clause-posted
+returns-clause-posted c =
     let row = c.args.self.now in
     let m = c.args.message in
-    let order = push_live row.held c.live-live.result row.places.now m c.live-live.ensures.value c.if-live-self.false in
-    record {
-      room = length-set row.places.now c.live-live.result m;
-      posted = record { room = omega arith; same = λ p. ap (count p) order ∙ same_swap (listed row) (m ∷ []) p };
-      order = order;
-    }
+    let order = take_more_set row.places.now row.held m (omega (arith, row.within)) in
+    record { room = omega (arith, length-take-le row.held row.places.now row.within); same = λ p. ap (count p) order ∙ same_swap (listed row) (m ∷ []) p }

@@ -1,6 +1,0 @@
-use Rattle.std.proofs.Common.{◌≡◌, ◌+◌, drop}
-use Rattle.row.specs.Order.{listed, place}
-use Rattle.row.proofs.rows.Row.find.Given as goal
-
-abbrev pub invariant-loop-at : goal.invariant-loop-at
-invariant-loop-at l = l.at + place l.process l.before (drop l.at (listed l.self)) ≡ place l.process l.number (listed l.self)
