@@ -8,7 +8,7 @@ ghost use Rattle.ballots.specs.Places.{body_at, ballots_at, covers, valid_at, Va
 use crate::allowing::{allowed_after, sift};
 use crate::counting::count;
 use crate::tallies::Allowed;
-use memory::{Memory, Stage, is_enough, place_of};
+use memory::{Memory, is_enough, place_of};
 use plan::Plan;
 use protocol::{Ballot, Subject};
 
@@ -37,7 +37,7 @@ pub fn valid_ballots(
     }
     let mut row = sifted_row(plan, memory, process, case, 1, VOTES);
     for before in 1..round {
-        let allowed = allowed_after(plan, before, count(&row));
+        let allowed = allowed_after(plan, before - 1, count(&row));
         row = sifted_row(plan, memory, process, case, before + 1, allowed);
     }
     row
@@ -84,8 +84,5 @@ fn accepted_body(plan: &Plan, memory: &Memory, process: u64, subject: Subject) -
     ensures { result ≡ body_at plan.now (held memory.now) process subject }
 {
     let place = place_of(plan, process, subject)?;
-    match memory.stage(place.record) {
-        Stage::Accepted(body) => Some(body),
-        _ => None,
-    }
+    memory.stage(place.record).accepted()
 }
