@@ -37,16 +37,16 @@ pub fn valid_ballots(
     if !is_covered(plan, memory, process, case, round) {
         return [None; 16];
     }
-    let view = View {
+    let accepted = Accepted {
         plan,
         memory,
         process,
         case,
     };
-    let mut row = view.sifted_row(1, VOTES);
+    let mut row = accepted.sifted_row(1, VOTES);
     for before in 1..round {
         let allowed = allowed_after(plan, before - 1, count(&row));
-        row = view.sifted_row(before + 1, allowed);
+        row = accepted.sifted_row(before + 1, allowed);
     }
     row
 }
@@ -60,7 +60,7 @@ fn is_covered(plan: &Plan, memory: &Memory, process: u64, case: u64, round: u64)
 
 // What a process has accepted in a case.
 #[derive(Drop)]
-struct View<'a, 'm> {
+struct Accepted<'a, 'm> {
     plan: &'a Plan,
     memory: &'a Memory<'m>,
     process: u64,
@@ -68,16 +68,16 @@ struct View<'a, 'm> {
     ghost known: { process < plan.now.n },
 }
 
-impl<'a, 'm> View<'a, 'm> {
+impl<'a, 'm> Accepted<'a, 'm> {
     // The accepted ballots of a round that are allowed in it.
     fn sifted_row(&self, round: u64, allowed: Allowed) -> [Option<Ballot>; 16]
         requires { 1 ≤ round }
         ensures { Holds (λ k. sifted allowed (ballots_at self.now.plan.now (held self.now.memory.now) self.now.process self.now.case k (round - 1))) result }
     {
-        array::from_fn(|originator| sift(allowed, self.accepted_body(originator as u64, round)))
+        array::from_fn(|originator| sift(allowed, self.body(originator as u64, round)))
     }
 
-    fn accepted_body(&self, originator: u64, round: u64) -> Option<u64>
+    fn body(&self, originator: u64, round: u64) -> Option<u64>
         ensures { result ≡ body_at self.now.plan.now (held self.now.memory.now) self.now.process (subject.Ballot originator self.now.case round) }
     {
         let subject = Subject::Ballot {

@@ -1,8 +1,7 @@
-use Rattle.std.proofs.Common.{◌≡◌, ◌-◌, true, sym, ap, ◌∙◌, subst, arith}
+use Rattle.std.proofs.Common.{◌≡◌, ◌-◌, true, ap, ◌∙◌, arith}
 use Rattle.memory.specs.Contents.{held}
 use Rattle.consensus.specs.Rounds.{kind}
 use Rattle.ballots.specs.Places.{covers}
-use Rattle.ballots.specs.Tallies.{cell}
 use Rattle.ballots.specs.Votes.{after}
 use Rattle.ballots.proofs.Reading.{first_row, next_row, last_row, valid_row, covered}
 use Rattle.ballots.proofs.rows.valid_ballots.Goals as goal

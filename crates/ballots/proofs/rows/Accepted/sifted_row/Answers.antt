@@ -1,4 +1,4 @@
-use Rattle.std.proofs.Common.{ℕ, ◌-◌, ◌<◌, ◌≤◌, None, sym, ap, ◌∙◌, ⊎_elim, arith, rules}
+use Rattle.std.proofs.Common.{◌-◌, ◌<◌, ◌≤◌, None, sym, ap, ◌∙◌, ⊎_elim, arith, rules}
 use Rattle.std.proofs.lemmas.Bool.{cases_lt}
 use Rattle.std.proofs.lemmas.List.{get_or_past}
 use Rattle.protocol.specs.declared.messages.Subject.TheVariants as subject
@@ -7,7 +7,7 @@ use Rattle.ballots.specs.Places.{body_at}
 use Rattle.ballots.specs.Votes.{sifted}
 use Rattle.ballots.proofs.Arrays.{filled}
 use Rattle.ballots.proofs.Reading.{body_at_lem, none_behind}
-use Rattle.ballots.proofs.rows.View.sifted_row.Goals as goal
+use Rattle.ballots.proofs.rows.Accepted.sifted_row.Goals as goal
 
 pub returns : goal.returns
 returns c =
