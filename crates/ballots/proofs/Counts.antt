@@ -1,17 +1,13 @@
 -- Counting the ballots of a row. Assumes nothing.
-use Rattle.std.proofs.Common.{◌≡◌, ℕ, zero, suc, ◌+◌, ◌<◌, ◌≤◌, Bool, true, false, cond, ◌&&◌, is_some, Some, None, Option, refl, ap, ◌∙◌, ⊎_elim, arith}
+use Rattle.std.proofs.Common.{◌≡◌, ℕ, zero, suc, ◌+◌, ◌<◌, ◌≤◌, Bool, true, false, cond, ◌&&◌, is_some, Some, None, Option, refl, ap, ⊎_elim, arith}
 use Rattle.std.proofs.lemmas.Bool.{both_ways, eqb-true, cases_lt}
 use Rattle.protocol.specs.Counting.{below}
-use Rattle.protocol.proofs.Counting.{below_suc, below_more, below_le}
+use Rattle.protocol.proofs.Counting.{below_suc}
 use Rattle.protocol.specs.declared.votes.Ballot.{Ballot}
 use Rattle.protocol.specs.declared.votes.Ballot.TheVariants.{Keep, Release, ProposeKeep, ProposeRelease, Open}
 use Rattle.protocol.specs.Numbers.{ballot_number, ballot_of}
-use Rattle.ballots.specs.Tallies.{says, counts, amount, Few}
-use Rattle.ballots.specs.declared.tallies.Tally.{Tally}
-
--- the step of a loop that counts
-pub said_more : (n : ℕ) (b : Ballot) (g : ℕ → Option Ballot) (o : Option Ballot) → g n ≡ o → below (n + 1) (λ (k : ℕ). says b (g k)) ≡ cond (says b o) 1 0 + below n (λ (k : ℕ). says b (g k))
-said_more n b g o e = below_more n (λ (k : ℕ). says b (g k)) ∙ ap (λ (p : Option Ballot). cond (says b p) 1 0 + below n (λ (k : ℕ). says b (g k))) e
+use Rattle.ballots.specs.Tallies.{says, counts, amount}
+use Rattle.ballots.specs.declared.tallies.ByBallot.{ByBallot}
 
 pub ballot_of_lem : (b : Ballot) → ballot_of (ballot_number b) ≡ Some b
 ballot_of_lem Keep = refl
@@ -35,7 +31,7 @@ below_zero (suc n) p h =
     let f : ◌≡◌ {A = ℕ} (cond (p n) 1 0) 0 = ap (λ (z : Bool). cond z 1 0) (h n (omega arith)) in
     omega arith
 
-abbrev pub total : Tally → ℕ
+abbrev pub total : ByBallot ℕ → ℕ
 total x = x.keep + x.release + x.propose_keep + x.propose_release + x.«open»
 
 one_of : (o : Option Ballot) → cond (says Keep o) 1 0 + cond (says Release o) 1 0 + cond (says ProposeKeep o) 1 0 + cond (says ProposeRelease o) 1 0 + cond (says Open o) 1 0 ≡ cond (is_some o) 1 0
@@ -75,9 +71,3 @@ counts_past m n g l none = λ i. record { keep = past Keep i; release = past Rel
   where
     past : (b : Ballot) → below m (λ k. says b (g k)) ≡ below n (λ k. says b (g k))
     past b = below_past m n (λ k. says b (g k)) l (λ k h. ap (says b) (none k h))
-
-pub counts_few : (g : ℕ → Option Ballot) → Few (counts 16 g)
-counts_few g = record { keep = few Keep; release = few Release; propose_keep = few ProposeKeep; propose_release = few ProposeRelease; «open» = few Open }
-  where
-    few : (b : Ballot) → below 16 (λ k. says b (g k)) ≤ 16
-    few b = below_le 16 (λ k. says b (g k))

@@ -10,29 +10,28 @@ use Rattle.consensus.specs.Rounds.{Kind, First, Second, Third, ahead, Allows}
 use Rattle.ballots.specs.Tallies.{amount}
 use Rattle.ballots.proofs.Counts.{total}
 use Rattle.ballots.specs.Votes.{after, takes}
-use Rattle.ballots.specs.declared.tallies.Allowed.{Allowed}
-use Rattle.ballots.specs.declared.tallies.Tally.{Tally}
+use Rattle.ballots.specs.declared.tallies.ByBallot.{ByBallot}
 
 -- n - t of the ballots that c counts, which allow b
-pub record Draw (n t : ℕ) (q : Kind) (c : Tally) (b : ℕ) : Type 0 where
-  pub of : Tally
+pub record Draw (n t : ℕ) (q : Kind) (c : ByBallot ℕ) (b : ℕ) : Type 0 where
+  pub of : ByBallot ℕ
   pub within : (d : Ballot) → amount of d ≤ amount c d
   pub size : total of ≡ n - t
   pub allows : Allows n t q (amount of) b
 
 -- a round of a kind has ballots of that kind only
-abbrev pub OfKind : Kind → Tally → Type 0
+abbrev pub OfKind : Kind → ByBallot ℕ → Type 0
 OfKind First c = (c.propose_keep ≡ 0) × (c.propose_release ≡ 0) × (c.«open» ≡ 0)
 OfKind Second c = (c.propose_keep ≡ 0) × (c.propose_release ≡ 0) × (c.«open» ≡ 0)
 OfKind Third c = (c.keep ≡ 0) × (c.release ≡ 0)
 
-some_votes : ℕ → ℕ → Tally
+some_votes : ℕ → ℕ → ByBallot ℕ
 some_votes k r = record { keep = k; release = r; propose_keep = 0; propose_release = 0; «open» = 0 }
 
-some_proposals : ℕ → ℕ → ℕ → Tally
+some_proposals : ℕ → ℕ → ℕ → ByBallot ℕ
 some_proposals k r o = record { keep = 0; release = 0; propose_keep = k; propose_release = r; «open» = o }
 
-votes_within : (c : Tally) (k r : ℕ) → k ≤ c.keep → r ≤ c.release → (d : Ballot) → amount (some_votes k r) d ≤ amount c d
+votes_within : (c : ByBallot ℕ) (k r : ℕ) → k ≤ c.keep → r ≤ c.release → (d : Ballot) → amount (some_votes k r) d ≤ amount c d
 unfolding some_votes
 votes_within c k r x y Keep = x
 votes_within c k r x y Release = y
@@ -40,7 +39,7 @@ votes_within c k r x y ProposeKeep = omega arith
 votes_within c k r x y ProposeRelease = omega arith
 votes_within c k r x y Open = omega arith
 
-proposals_within : (c : Tally) (k r o : ℕ) → k ≤ c.propose_keep → r ≤ c.propose_release → o ≤ c.«open» → (d : Ballot) → amount (some_proposals k r o) d ≤ amount c d
+proposals_within : (c : ByBallot ℕ) (k r o : ℕ) → k ≤ c.propose_keep → r ≤ c.propose_release → o ≤ c.«open» → (d : Ballot) → amount (some_proposals k r o) d ≤ amount c d
 unfolding some_proposals
 proposals_within c k r o x y z Keep = omega arith
 proposals_within c k r o x y z Release = omega arith
@@ -55,14 +54,14 @@ both_sides : (P : Side → Type 0) → P side.Keep → P side.Release → (v : S
 both_sides P a b side.Keep = a
 both_sides P a b side.Release = b
 
-keep_ahead : (x : Tally) → x.release ≤ x.keep → ahead (amount x) ≡ side.Keep
+keep_ahead : (x : ByBallot ℕ) → x.release ≤ x.keep → ahead (amount x) ≡ side.Keep
 keep_ahead x l = ap (λ (z : Bool). cond z side.Release side.Keep) (le-ltb _ _ l)
 
-release_ahead : (x : Tally) → x.keep < x.release → ahead (amount x) ≡ side.Release
+release_ahead : (x : ByBallot ℕ) → x.keep < x.release → ahead (amount x) ≡ side.Release
 release_ahead x l = ap (λ (z : Bool). cond z side.Release side.Keep) (lt-ltb _ _ l)
 
 -- a ballot of number b that is among those that are allowed
-pub record Taken (a : Allowed) (b : ℕ) : Type 0 where
+pub record Taken (a : ByBallot Bool) (b : ℕ) : Type 0 where
   pub is : Ballot
   pub number : b ≡ ballot_number is
   pub allowed : takes a is ≡ true
@@ -74,7 +73,7 @@ le_lt : (a b c d : ℕ) → a ≤ b → c < d → (leb a b && ltb c d) ≡ true
 le_lt a b c d x y = and_from _ _ (le-leb a b x) (lt-ltb c d y)
 
 module _ (n t : ℕ) where
-  drawn_first : (c : Tally) (b : Ballot) → takes (after n t First c) b ≡ true → Draw n t First c (ballot_number b)
+  drawn_first : (c : ByBallot ℕ) (b : Ballot) → takes (after n t First c) b ≡ true → Draw n t First c (ballot_number b)
   unfolding after some_votes
   drawn_first c Keep e =
       let a = and_parts (leb (n - t) (c.keep + c.release)) _ e in
@@ -104,7 +103,7 @@ module _ (n t : ℕ) where
   drawn_first c ProposeRelease e = never e
   drawn_first c Open e = never e
 
-  drawn_second : (c : Tally) (b : Ballot) → takes (after n t Second c) b ≡ true → Draw n t Second c (ballot_number b)
+  drawn_second : (c : ByBallot ℕ) (b : Ballot) → takes (after n t Second c) b ≡ true → Draw n t Second c (ballot_number b)
   unfolding after some_votes
   drawn_second c Keep e = never e
   drawn_second c Release e = never e
@@ -142,7 +141,7 @@ module _ (n t : ℕ) where
       }
 
   -- neither side has more than t, and any may be said
-  tossed_third : (c : Tally) (v : Side) → n - t ≤ min c.propose_keep t + min c.propose_release t + c.«open» → Draw n t Third c (ballot_number (vote v))
+  tossed_third : (c : ByBallot ℕ) (v : Side) → n - t ≤ min c.propose_keep t + min c.propose_release t + c.«open» → Draw n t Third c (ballot_number (vote v))
   unfolding some_proposals
   tossed_third c v few =
       let k = min (min c.propose_keep t) (n - t) in
@@ -155,7 +154,7 @@ module _ (n t : ℕ) where
         allows = inr (both_sides (λ u. amount (some_proposals k r o) (proposal u) ≤ t) (omega arith) (omega arith), (v, refl));
       }
 
-  drawn_third : (c : Tally) (b : Ballot) → takes (after n t Third c) b ≡ true → Draw n t Third c (ballot_number b)
+  drawn_third : (c : ByBallot ℕ) (b : Ballot) → takes (after n t Third c) b ≡ true → Draw n t Third c (ballot_number b)
   unfolding after some_proposals
   drawn_third c Keep e = ⊎_elim forced (λ x. tossed_third c side.Keep (leb-true _ _ x)) (or_cases _ _ e)
     where
@@ -191,13 +190,13 @@ module _ (n t : ℕ) where
   drawn_third c ProposeRelease e = never e
   drawn_third c Open e = never e
 
-  pub drawn : (q : Kind) (c : Tally) (b : Ballot) → takes (after n t q c) b ≡ true → Draw n t q c (ballot_number b)
+  pub drawn : (q : Kind) (c : ByBallot ℕ) (b : Ballot) → takes (after n t q c) b ≡ true → Draw n t q c (ballot_number b)
   drawn First = drawn_first
   drawn Second = drawn_second
   drawn Third = drawn_third
 
   -- and what a draw allows is among what is allowed
-  module _ (c : Tally) (b : ℕ) where
+  module _ (c : ByBallot ℕ) (b : ℕ) where
     taken_first : OfKind First c → Draw n t First c b → Taken (after n t First c) b
     unfolding after
     taken_first none d = ⊎_elim behind even (cases_lt d.of.keep d.of.release)
@@ -318,7 +317,7 @@ module _ (n t : ℕ) where
         tossed side.Keep f e = record { is = Keep; number = e; allowed = or_right _ _ (few f) }
         tossed side.Release f e = record { is = Release; number = e; allowed = or_right _ _ (few f) }
 
-  pub taken : (q : Kind) (c : Tally) (b : ℕ) → OfKind q c → Draw n t q c b → Taken (after n t q c) b
+  pub taken : (q : Kind) (c : ByBallot ℕ) (b : ℕ) → OfKind q c → Draw n t q c b → Taken (after n t q c) b
   taken First = taken_first
   taken Second = taken_second
   taken Third = taken_third

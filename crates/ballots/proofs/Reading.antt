@@ -1,5 +1,5 @@
 -- Rows of the ballots of a memory. Assumes nothing.
-use Rattle.std.proofs.Common.{◌≡◌, ℕ, zero, suc, ◌+◌, ◌-◌, ◌*◌, ◌<◌, ◌≤◌, true, ltb, leb, List, None, Option, sym, ap, ◌∙◌, subst, arith}
+use Rattle.std.proofs.Common.{◌≡◌, ℕ, zero, suc, ◌+◌, ◌-◌, ◌*◌, ◌<◌, ◌≤◌, Bool, true, ltb, leb, List, None, Option, sym, ap, ◌∙◌, subst, arith}
 use Rattle.std.proofs.lemmas.Bool.{cond-true, cond-false, le-ltb, ltb-true, leb-true, and_parts, and_left}
 use Rattle.protocol.specs.declared.messages.Subject.TheVariants as subject
 use Rattle.protocol.specs.declared.votes.Ballot.{Ballot}
@@ -11,7 +11,7 @@ use Rattle.consensus.specs.Validity.{Valid}
 use Rattle.ballots.specs.Places.{body_at, ballots_at, covers, valid_at, ValidRow}
 use Rattle.ballots.specs.Tallies.{cell, Holds, counts}
 use Rattle.ballots.specs.Votes.{after, beginning, sifted, votes, Exactly}
-use Rattle.ballots.specs.declared.tallies.Allowed.{Allowed}
+use Rattle.ballots.specs.declared.tallies.ByBallot.{ByBallot}
 use Rattle.ballots.proofs.Counts.{counts_past}
 use Rattle.ballots.proofs.Theorem.{exact}
 
@@ -57,7 +57,7 @@ module _ (plan : Plan) (h : Held) (i c : ℕ) where
 
   -- a round of the loop: the row of round r is counted, and what it allows is sifted from the round after
   pub next_row :
-      (r : ℕ) (before row : List (Option Ballot)) (allowed : Allowed)
+      (r : ℕ) (before row : List (Option Ballot)) (allowed : ByBallot Bool)
       → 1 ≤ r
       → Holds (valid (r - 1)) before
       → allowed ≡ after plan.n plan.t (kind (r - 1)) (counts 16 (cell before))

@@ -13,7 +13,7 @@ use Rattle.consensus.proofs.Advancing.{lowest_size}
 use Rattle.consensus.proofs.Tallies.{held}
 use Rattle.ballots.specs.Tallies.{says, counts, amount, only}
 use Rattle.ballots.specs.Votes.{Exactly}
-use Rattle.ballots.specs.declared.tallies.Tally.{Tally}
+use Rattle.ballots.specs.declared.tallies.ByBallot.{ByBallot}
 use Rattle.ballots.proofs.Counts.{total, counts_all, counts_amount, same_ballot, says_only}
 use Rattle.ballots.proofs.Draws.{Draw}
 
@@ -28,14 +28,14 @@ below_fewer zero S p = omega arith
 below_fewer (suc n) S p = let one = one_fewer (S n) (p n) in omega (arith, below_fewer n S p)
 
 -- the first ones of each ballot, as many as x says
-first_by : Tally → (ℕ → Option Ballot) → ℕ → Option Ballot → Bool
+first_by : ByBallot ℕ → (ℕ → Option Ballot) → ℕ → Option Ballot → Bool
 first_by x g k None = false
 first_by x g k (Some b) = ltb (below k (λ j. says b (g j))) (amount x b)
 
-first_of : Tally → (ℕ → Option Ballot) → ℕ → Bool
+first_of : ByBallot ℕ → (ℕ → Option Ballot) → ℕ → Bool
 first_of x g k = first_by x g k (g k)
 
-first_says : (x : Tally) (g : ℕ → Option Ballot) (k : ℕ) (o : Option Ballot) (b : Ballot) → (first_by x g k o && says b o) ≡ (says b o && ltb (below k (λ j. says b (g j))) (amount x b))
+first_says : (x : ByBallot ℕ) (g : ℕ → Option Ballot) (k : ℕ) (o : Option Ballot) (b : Ballot) → (first_by x g k o && says b o) ≡ (says b o && ltb (below k (λ j. says b (g j))) (amount x b))
 unfolding first_by
 first_says x g k None b = refl
 first_says x g k (Some c) b = go (eqb (ballot_number c) (ballot_number b)) refl
@@ -52,7 +52,7 @@ first_says x g k (Some c) b = go (eqb (ballot_number c) (ballot_number b)) refl
     go false h = none _
     go true h = swap _ ∙ ap (λ (d : Ballot). ltb (below k (λ j. says d (g j))) (amount x d)) (same_ballot c b (eqb-true _ _ h))
 
-first_some : (x : Tally) (g : ℕ → Option Ballot) (k : ℕ) (o : Option Ballot) → first_by x g k o ≡ true → (b : Ballot) × (o ≡ Some b)
+first_some : (x : ByBallot ℕ) (g : ℕ → Option Ballot) (k : ℕ) (o : Option Ballot) → first_by x g k o ≡ true → (b : Ballot) × (o ≡ Some b)
 unfolding first_by
 first_some x g k None e = absurd (both_ways false refl e)
 first_some x g k (Some b) e = (b, refl)

@@ -6,7 +6,7 @@ use Rattle.protocol.specs.declared.votes.Ballot.{Ballot}
 use Rattle.protocol.specs.declared.votes.Ballot.TheVariants.{Keep, Release, ProposeKeep, ProposeRelease, Open}
 use Rattle.ballots.specs.Tallies.{says}
 use Rattle.ballots.specs.Votes.{takes, passed, sifted}
-use Rattle.ballots.specs.declared.tallies.Allowed.{Allowed}
+use Rattle.ballots.specs.declared.tallies.ByBallot.{ByBallot}
 use Rattle.ballots.proofs.Counts.{ballot_of_lem, says_some}
 
 none_some : {X : Type 0} (b : Ballot) → ◌≡◌ {A = Option Ballot} None (Some b) → X
@@ -27,7 +27,7 @@ ballot_number_lem c b e = go (eqb c 0) (eqb c 1) (eqb c 2) (eqb c 3) (eqb c 4) r
     go false false false false true v w x y z h = is 4 Open z refl h
     go false false false false false v w x y z h = none_some b h
 
-module _ (a : Allowed) where
+module _ (a : ByBallot Bool) where
   pub passed_some : (o : Option Ballot) (b : Ballot) → passed a o ≡ Some b → (o ≡ Some b) × (takes a b ≡ true)
   passed_some None b e = none_some b e
   passed_some (Some c) b e = go (takes a c) refl e

@@ -1,5 +1,5 @@
 -- Counting finds the valid ballots. Assumes nothing.
-use Rattle.std.proofs.Common.{◌≡◌, ℕ, zero, suc, true, false, Some, sym, refl, ap, ◌∙◌, subst}
+use Rattle.std.proofs.Common.{◌≡◌, ℕ, zero, suc, Bool, true, false, Some, sym, refl, ap, ◌∙◌, subst}
 use Rattle.std.proofs.lemmas.Bool.{both_ways}
 use Rattle.protocol.specs.Counting.{below}
 use Rattle.protocol.specs.Numbers.{ballot_number, vote}
@@ -13,7 +13,7 @@ use Rattle.consensus.proofs.Sides.{kind_after}
 use Rattle.consensus.proofs.Sides as sides
 use Rattle.ballots.specs.Tallies.{says, counts}
 use Rattle.ballots.specs.Votes.{after, beginning, takes, sifted, votes, Exactly}
-use Rattle.ballots.specs.declared.tallies.Allowed.{Allowed}
+use Rattle.ballots.specs.declared.tallies.ByBallot.{ByBallot}
 use Rattle.ballots.proofs.Counts.{below_zero}
 use Rattle.ballots.proofs.Draws.{OfKind, drawn, taken}
 use Rattle.ballots.proofs.Sets.{to_draw, from_draw}
@@ -32,7 +32,7 @@ vote_begins side.Keep = refl
 vote_begins side.Release = refl
 
 module _ (n t : ℕ) (G : Accepted) where
-  none_counted : (a : Allowed) (r : ℕ) (b : Ballot) → takes a b ≡ false → below n (λ k. says b (sifted a (G k r))) ≡ 0
+  none_counted : (a : ByBallot Bool) (r : ℕ) (b : Ballot) → takes a b ≡ false → below n (λ k. says b (sifted a (G k r))) ≡ 0
   none_counted a r b e = below_zero n _ (λ k l. not_sifted a (G k r) b e)
 
   of_kind : (r : ℕ) → OfKind (kind r) (counts n (votes n t G r))

@@ -1,10 +1,10 @@
 -- Rows of ballots, and counting them. Assumes nothing.
-use Rattle.std.specs.Prelude.{◌≡◌, ℕ, ◌≤◌, Bool, false, cond, List, length, Some, None, Option, ◌==◌, slice_index_or}
+use Rattle.std.specs.Prelude.{◌≡◌, ℕ, Bool, false, cond, List, length, Some, None, Option, ◌==◌, slice_index_or}
 use Rattle.protocol.specs.Counting.{below}
 use Rattle.protocol.specs.Numbers.{ballot_number}
 use Rattle.protocol.specs.declared.votes.Ballot.{Ballot}
 use Rattle.protocol.specs.declared.votes.Ballot.TheVariants.{Keep, Release, ProposeKeep, ProposeRelease, Open}
-use Rattle.ballots.specs.declared.tallies.Tally.{Tally}
+use Rattle.ballots.specs.declared.tallies.ByBallot.{ByBallot}
 
 -- the ballot of process k in a row
 abbrev pub cell : List (Option Ballot) → ℕ → Option Ballot
@@ -21,7 +21,7 @@ says b None = false
 says b (Some c) = ballot_number c == ballot_number b
 
 -- how many processes below n have each ballot
-abbrev pub counts : ℕ → (ℕ → Option Ballot) → Tally
+abbrev pub counts : ℕ → (ℕ → Option Ballot) → ByBallot ℕ
 counts n g = record {
   keep = below n (λ k. says Keep (g k));
   release = below n (λ k. says Release (g k));
@@ -34,18 +34,14 @@ counts n g = record {
 abbrev pub only : (ℕ → Bool) → (ℕ → Option Ballot) → ℕ → Option Ballot
 only S g k = cond (S k) (g k) None
 
--- how many a tally has of a ballot
-abbrev pub amount : Tally → Ballot → ℕ
-amount x Keep = x.keep
-amount x Release = x.release
-amount x ProposeKeep = x.propose_keep
-amount x ProposeRelease = x.propose_release
-amount x Open = x.«open»
+-- what there is of a ballot
+abbrev pub part : {T : Type 0} → ByBallot T → Ballot → T
+part x Keep = x.keep
+part x Release = x.release
+part x ProposeKeep = x.propose_keep
+part x ProposeRelease = x.propose_release
+part x Open = x.«open»
 
--- no more than there are processes
-pub record Few (x : Tally) : Type 0 where
-  pub keep : x.keep ≤ 16
-  pub release : x.release ≤ 16
-  pub propose_keep : x.propose_keep ≤ 16
-  pub propose_release : x.propose_release ≤ 16
-  pub «open» : x.«open» ≤ 16
+-- how many a tally has of a ballot
+abbrev pub amount : ByBallot ℕ → Ballot → ℕ
+amount = part

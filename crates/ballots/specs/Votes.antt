@@ -2,15 +2,13 @@
 use Rattle.std.specs.Prelude.{◌≡◌, ℕ, zero, suc, ◌+◌, ◌-◌, ◌*◌, ◌/◌, min, Bool, true, false, cond, ◌&&◌, ◌||◌, Some, None, Option, nat_le, nat_lt}
 use Rattle.protocol.specs.Numbers.{ballot_number, ballot_of}
 use Rattle.protocol.specs.declared.votes.Ballot.{Ballot}
-use Rattle.protocol.specs.declared.votes.Ballot.TheVariants.{Keep, Release, ProposeKeep, ProposeRelease, Open}
 use Rattle.consensus.specs.Rounds.{Accepted, Kind, First, Second, Third, kind}
 use Rattle.consensus.specs.Validity.{Valid}
-use Rattle.ballots.specs.Tallies.{counts}
-use Rattle.ballots.specs.declared.tallies.Allowed.{Allowed}
-use Rattle.ballots.specs.declared.tallies.Tally.{Tally}
+use Rattle.ballots.specs.Tallies.{counts, part}
+use Rattle.ballots.specs.declared.tallies.ByBallot.{ByBallot}
 
 -- what a full set of m of the x can allow after a first round: which side can be ahead
-abbrev pub after_first : ℕ → Tally → Allowed
+abbrev pub after_first : ℕ → ByBallot ℕ → ByBallot Bool
 after_first m x =
     let full = nat_le m (x.keep + x.release) in
     record {
@@ -22,7 +20,7 @@ after_first m x =
     }
 
 -- after a second round: which side can have more than half of all n, and whether it can be that neither has
-abbrev pub after_second : ℕ → ℕ → Tally → Allowed
+abbrev pub after_second : ℕ → ℕ → ByBallot ℕ → ByBallot Bool
 after_second n m x =
     let full = nat_le m (x.keep + x.release) in
     record {
@@ -34,7 +32,7 @@ after_second n m x =
     }
 
 -- after a third round: which side can be forced, and whether it can be that neither is
-abbrev pub after_third : ℕ → ℕ → Tally → Allowed
+abbrev pub after_third : ℕ → ℕ → ByBallot ℕ → ByBallot Bool
 after_third t m x =
     let full = nat_le m (x.propose_keep + x.propose_release + x.«open») in
     let tossed = nat_le m (min x.propose_keep t + min x.propose_release t + x.«open») in
@@ -47,28 +45,25 @@ after_third t m x =
     }
 
 -- what n - t ballots of a round can allow in the round after it
-unfoldable pub after : ℕ → ℕ → Kind → Tally → Allowed
+unfoldable pub after : ℕ → ℕ → Kind → ByBallot ℕ → ByBallot Bool
 after n t First x = after_first (n - t) x
 after n t Second x = after_second n (n - t) x
 after n t Third x = after_third t (n - t) x
 
 -- a case begins with votes
-abbrev pub beginning : Allowed
+abbrev pub beginning : ByBallot Bool
 beginning = record { keep = true; release = true; propose_keep = false; propose_release = false; «open» = false }
 
-abbrev pub takes : Allowed → Ballot → Bool
-takes a Keep = a.keep
-takes a Release = a.release
-takes a ProposeKeep = a.propose_keep
-takes a ProposeRelease = a.propose_release
-takes a Open = a.«open»
+-- whether a ballot is allowed
+abbrev pub takes : ByBallot Bool → Ballot → Bool
+takes = part
 
-abbrev pub passed : Allowed → Option Ballot → Option Ballot
+abbrev pub passed : ByBallot Bool → Option Ballot → Option Ballot
 passed a None = None
 passed a (Some b) = cond (takes a b) (Some b) None
 
 -- a body, if it is a ballot and allowed
-abbrev pub sifted : Allowed → Option ℕ → Option Ballot
+abbrev pub sifted : ByBallot Bool → Option ℕ → Option Ballot
 sifted a None = None
 sifted a (Some b) = passed a (ballot_of b)
 

@@ -1,7 +1,6 @@
 // Counting the ballots of a round.
-ghost use Rattle.std.specs.Prelude.{◌≡◌};
+ghost use Rattle.std.specs.Prelude.{◌≡◌, count_by};
 ghost use Rattle.ballots.specs.Tallies.{counts, says, cell};
-ghost use Rattle.protocol.specs.Counting.{below};
 ghost use Rattle.ballots.specs.Votes.{Counted};
 
 use crate::tallies::Tally;
@@ -20,18 +19,10 @@ pub fn count(row: &[Option<Ballot>; 16]) -> Tally
     }
 }
 
-fn count_of(row: &[Option<Ballot>; 16], ballot: Ballot) -> u64
-    ensures { result ≡ below 16 (λ k. says ballot (cell row.now k)) }
+fn count_of(row: &[Option<Ballot>; 16], ballot: Ballot) -> u8
+    ensures { result ≡ count_by (says ballot) row.now }
 {
-    let mut count = 0;
-    for k in 0..16 {
-        if let Some(cast) = row[k] {
-            if cast.number() == ballot.number() {
-                count += 1;
-            }
-        }
-    }
-    count
+    row.iter().filter(|cast| **cast == Some(ballot)).count() as u8
 }
 
 // Counting finds exactly the valid ballots, whatever was accepted. This function only carries the theorem.

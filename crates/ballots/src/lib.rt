@@ -8,7 +8,7 @@ pub mod tallies;
 
 pub use counting::{count, counting_is_exact};
 pub use rows::valid_ballots;
-pub use tallies::Tally;
+pub use tallies::{Allowed, ByBallot, Tally};
 
 #[cfg(test)]
 mod tests;

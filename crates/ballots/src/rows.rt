@@ -1,5 +1,6 @@
 // The ballots of a round at a process, in a row by originator.
-ghost use Rattle.std.specs.Prelude.{◌≡◌, ◌-◌, ◌<◌, ◌≤◌, true};
+ghost use Rattle.std.specs.Prelude.{◌≡◌, ◌-◌, ◌<◌, ◌≤◌};
+ghost use Rattle.protocol.specs.declared.messages.Subject.TheVariants as subject;
 ghost use Rattle.memory.specs.Contents.{held};
 ghost use Rattle.ballots.specs.Tallies.{Holds};
 ghost use Rattle.ballots.specs.Votes.{sifted};
@@ -8,9 +9,10 @@ ghost use Rattle.ballots.specs.Places.{body_at, ballots_at, covers, valid_at, Va
 use crate::allowing::{allowed_after, sift};
 use crate::counting::count;
 use crate::tallies::Allowed;
-use memory::{Memory, Stage, is_enough, place_of};
+use memory::{Memory, is_enough, place_of};
 use plan::Plan;
 use protocol::{Ballot, Subject};
+use std::array;
 
 const VOTES: Allowed = Allowed {
     keep: true,
@@ -35,10 +37,16 @@ pub fn valid_ballots(
     if !is_covered(plan, memory, process, case, round) {
         return [None; 16];
     }
-    let mut row = sifted_row(plan, memory, process, case, 1, VOTES);
+    let accepted = Accepted {
+        plan,
+        memory,
+        process,
+        case,
+    };
+    let mut row = accepted.sifted_row(1, VOTES);
     for before in 1..round {
-        let allowed = allowed_after(plan, before, count(&row));
-        row = sifted_row(plan, memory, process, case, before + 1, allowed);
+        let allowed = allowed_after(plan, before - 1, count(&row));
+        row = accepted.sifted_row(before + 1, allowed);
     }
     row
 }
@@ -46,46 +54,38 @@ pub fn valid_ballots(
 fn is_covered(plan: &Plan, memory: &Memory, process: u64, case: u64, round: u64) -> bool
     ensures { result ≡ covers plan.now (held memory.now) process case round }
 {
-    process < plan.n()
-        && case < plan.cases()
-        && round >= 1
-        && round <= 3 * plan.phases()
-        && is_enough(plan, memory)
+    let rounds = 1..=3 * plan.phases();
+    process < plan.n() && case < plan.cases() && rounds.contains(&round) && is_enough(plan, memory)
 }
 
-// The accepted ballots of a round that are allowed in it.
-fn sifted_row(
-    plan: &Plan,
-    memory: &Memory,
+// What a process has accepted in a case.
+#[derive(Drop)]
+struct Accepted<'a, 'm> {
+    plan: &'a Plan,
+    memory: &'a Memory<'m>,
     process: u64,
     case: u64,
-    round: u64,
-    allowed: Allowed,
-) -> [Option<Ballot>; 16]
-    requires process { process < plan.now.n }
-    requires round { 1 ≤ round }
-    ensures { Holds (λ k. sifted allowed (ballots_at plan.now (held memory.now) process case k (round - 1))) result }
-{
-    let mut row = [None; 16];
-    for originator in 0..plan.n() {
-        let subject = Subject::Ballot {
-            originator,
-            case,
-            round,
-        };
-        let body = accepted_body(plan, memory, process, subject);
-        row[originator as usize] = sift(allowed, body);
-    }
-    row
+    ghost known: { process < plan.now.n },
 }
 
-fn accepted_body(plan: &Plan, memory: &Memory, process: u64, subject: Subject) -> Option<u64>
-    requires { process < plan.now.n }
-    ensures { result ≡ body_at plan.now (held memory.now) process subject }
-{
-    let place = place_of(plan, process, subject)?;
-    match memory.stage(place.record) {
-        Stage::Accepted(body) => Some(body),
-        _ => None,
+impl<'a, 'm> Accepted<'a, 'm> {
+    // The accepted ballots of a round that are allowed in it.
+    fn sifted_row(&self, round: u64, allowed: Allowed) -> [Option<Ballot>; 16]
+        requires { 1 ≤ round }
+        ensures { Holds (λ k. sifted allowed (ballots_at self.now.plan.now (held self.now.memory.now) self.now.process self.now.case k (round - 1))) result }
+    {
+        array::from_fn(|originator| sift(allowed, self.body(originator as u64, round)))
+    }
+
+    fn body(&self, originator: u64, round: u64) -> Option<u64>
+        ensures { result ≡ body_at self.now.plan.now (held self.now.memory.now) self.now.process (subject.Ballot originator self.now.case round) }
+    {
+        let subject = Subject::Ballot {
+            originator,
+            case: self.case,
+            round,
+        };
+        let place = place_of(self.plan, self.process, subject)?;
+        self.memory.stage(place.record).accepted()
     }
 }

@@ -1,20 +1,37 @@
 // How many there are of each ballot, and which ballots some set of them allows.
+ghost use Rattle.std.specs.Prelude.{◌≡◌};
 
-#[derive(Clone, Copy)]
-pub struct Tally {
-    pub keep: u64,
-    pub release: u64,
-    pub propose_keep: u64,
-    pub propose_release: u64,
-    pub open: u64,
+use protocol::Ballot;
+
+// One thing of each ballot.
+#[derive(Clone, Copy, Debug, PartialEq, Eq)]
+pub struct ByBallot<T> {
+    pub keep: T,
+    pub release: T,
+    pub propose_keep: T,
+    pub propose_release: T,
+    pub open: T,
 }
 
+// How many of the sixteen places of a row have each ballot.
+pub type Tally = ByBallot<u8>;
+
 // Which ballots may stand in the round after.
-#[derive(Clone, Copy)]
-pub struct Allowed {
-    pub keep: bool,
-    pub release: bool,
-    pub propose_keep: bool,
-    pub propose_release: bool,
-    pub open: bool,
+pub type Allowed = ByBallot<bool>;
+
+impl<T: Copy> ByBallot<T> {
+    ghost use Rattle.ballots.specs.Tallies.{part};
+
+    // What it has of a ballot.
+    pub fn get(self, ballot: Ballot) -> T
+        ensures { result ≡ part self ballot }
+    {
+        match ballot {
+            Ballot::Keep => self.keep,
+            Ballot::Release => self.release,
+            Ballot::ProposeKeep => self.propose_keep,
+            Ballot::ProposeRelease => self.propose_release,
+            Ballot::Open => self.open,
+        }
+    }
 }

@@ -1,18 +1,8 @@
 use crate::rows::valid_ballots;
-use memory::{BroadcastRecord, CaseRecord, Memory, Slip, Stage};
+use memory::{BroadcastRecord, CaseRecord, Memory, Stage};
 use plan::Plan;
 use protocol::Ballot;
 use std::test::Fail;
-
-const SILENT: BroadcastRecord = BroadcastRecord {
-    stage: Stage::Silent,
-};
-
-const UNOPENED: CaseRecord = CaseRecord {
-    round: 0,
-    decision: None,
-    slip: Slip::Absent,
-};
 
 fn accepted(body: u64) -> BroadcastRecord {
     BroadcastRecord {
@@ -24,7 +14,7 @@ fn accepted(body: u64) -> BroadcastRecord {
 #[test]
 fn one_keep_of_four_votes_allows_no_keep(rt: HostRuntime) -> Result<(), Fail> {
     let plan = Plan::new(4, 1, 0, 1, 1)?;
-    let mut records = [SILENT; 48];
+    let mut records = [BroadcastRecord::SILENT; 48];
     records[0] = accepted(0);
     records[1] = accepted(0);
     records[3] = accepted(1);
@@ -36,7 +26,7 @@ fn one_keep_of_four_votes_allows_no_keep(rt: HostRuntime) -> Result<(), Fail> {
     let memory = Memory {
         broadcasts: &mut records,
         bodies: &mut [None; 384],
-        cases: &mut [UNOPENED; 4],
+        cases: &mut [CaseRecord::UNOPENED; 4],
         serials: &mut [0; 4],
     };
     let row = valid_ballots(&plan, &memory, 0, 0, 2);

@@ -1,18 +1,13 @@
-use Rattle.std.proofs.Common.{◌≡◌, ◌-◌, true, sym, ap, ◌∙◌, subst, arith}
+use Rattle.std.proofs.Common.{◌≡◌, ◌-◌, true, ap, ◌∙◌, arith}
 use Rattle.memory.specs.Contents.{held}
 use Rattle.consensus.specs.Rounds.{kind}
 use Rattle.ballots.specs.Places.{covers}
-use Rattle.ballots.specs.Tallies.{Few, cell}
 use Rattle.ballots.specs.Votes.{after}
-use Rattle.ballots.proofs.Counts.{counts_few}
 use Rattle.ballots.proofs.Reading.{first_row, next_row, last_row, valid_row, covered}
 use Rattle.ballots.proofs.rows.valid_ballots.Goals as goal
 
 pub loop-before-init : goal.loop-before-init
 loop-before-init c = first_row c.args.plan.now (held c.args.memory.now) c.args.process c.args.case _ c.sifted_row-row.ensures
-
-pub allowed_after-allowed-requires : goal.allowed_after-allowed-requires
-allowed_after-allowed-requires c = record { round = omega arith; few = subst Few (sym c.count.ensures) (counts_few (cell c.loop-before.row)) }
 
 pub loop-before-preserved : goal.loop-before-preserved
 loop-before-preserved c =

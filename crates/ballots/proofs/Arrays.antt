@@ -1,0 +1,19 @@
+-- Arrays that a closure fills which changes nothing. Assumes nothing.
+use Rattle.std.proofs.Common.{◌≡◌, ℕ, zero, suc, ◌+◌, ◌<◌, List, get_or, refl, ◌∙◌, subst, zero-add, arith}
+use Rattle.std.specs.Array.{IsFromFnResult, IsFromFnResultFrom}
+use denote.Param.Members.{Mut, Called}
+
+module _ {F B : Type 0} (g : Mut F (ℕ × Unit {0}) B) (f : F) (h : ℕ → B) (once : (i : ℕ) (y : B) (q : F) → Called g f (i, tt) y q → (y ≡ h i) × (q ≡ f)) where
+  from : (ys : List B) (i n : ℕ) (p : F) → p ≡ f → IsFromFnResultFrom g p ys i n → (k : ℕ) (d : B) → k < n → get_or ys (i + k) d ≡ h (i + k)
+  from ys i zero p e x k d l = absurd (omega arith)
+  from ys i (suc n) p e (q, y, at, called, rest) zero d l =
+      let c = once i y q (subst (λ (s : F). Called g s (i, tt) y q) e called) in
+      let z : i + 0 ≡ i = omega arith in
+      rw z (at.1 d ∙ c.0)
+  from ys i (suc n) p e (q, y, at, called, rest) (suc k) d l =
+      let c = once i y q (subst (λ (s : F). Called g s (i, tt) y q) e called) in
+      let z : i + suc k ≡ (i + 1) + k = omega arith in
+      rw z (from ys (i + 1) n q c.1 rest k d (omega arith))
+
+  pub filled : (ys : List B) (n : ℕ) → IsFromFnResult g f ys n → (k : ℕ) (d : B) → k < n → get_or ys k d ≡ h k
+  filled ys n e k d l = rw zero-add at (from ys 0 n f refl e.each k d l)
