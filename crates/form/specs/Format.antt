@@ -1,5 +1,5 @@
 -- How a form is written, and which forms a program can hold.
-use Rattle.std.specs.Prelude.{◌≡◌, ℕ, ◌^◌, ◌<◌, ◌≤◌, List, [], ◌∷◌, ◌++◌, length, codes, decimal}
+use Rattle.std.specs.Prelude.{ℕ, ◌^◌, ◌<◌, ◌≤◌, List, [], ◌∷◌, ◌++◌, length, codes, decimal}
 use Rattle.std.specs.List.{AllByRecursion}
 use Rattle.protocol.specs.declared.messages.Step.{Step}
 use Rattle.protocol.specs.declared.messages.Step.TheVariants.{Initial, Echo, Ready}
@@ -7,8 +7,6 @@ use Rattle.protocol.specs.declared.messages.Subject.{Subject}
 use Rattle.protocol.specs.declared.messages.Subject.TheVariants.{Item, Ballot}
 use Rattle.form.specs.declared.forms.Form.{Form}
 use Rattle.form.specs.declared.forms.Form.TheVariants.{Line, Announce, Open as Opening, Forge, Deliver, Advance}
-use Rattle.form.specs.declared.forms.Marks.{Marks}
-use Rattle.form.specs.Marks.{listed, stored}
 
 abbrev pub marked : List ℕ → List ℕ
 marked [] = []
@@ -26,7 +24,7 @@ subjected (Ballot o c r) = codes "(ballot " ++ (decimal o ++ (codes " " ++ (deci
 -- the text of a form
 abbrev pub written : Form → List ℕ
 written (Line n t ms) =
-    codes "(line (counters " ++ (decimal n ++ (codes ") (tolerate " ++ (decimal t ++ (codes ") (strange" ++ (marked (listed ms) ++ codes "))")))))
+    codes "(line (counters " ++ (decimal n ++ (codes ") (tolerate " ++ (decimal t ++ (codes ") (strange" ++ (marked ms ++ codes "))")))))
 written (Announce c t) = codes "(announce (counter " ++ (decimal c ++ (codes ") (tag " ++ (decimal t ++ codes "))")))
 written (Opening c n v) =
     codes "(open (counter " ++ (decimal c ++ (codes ") (case " ++ (decimal n ++ (codes ") (vote " ++ (decimal v ++ codes "))")))))
@@ -42,11 +40,9 @@ abbrev pub SubjectFits : Subject → Type 0
 SubjectFits (Item o n) = Fits64 o × Fits64 n
 SubjectFits (Ballot o c r) = Fits64 o × (Fits64 c × Fits64 r)
 
--- at most 16 marks, kept as a program keeps them
-pub record MarksFit (ms : Marks) : Type 0 where
-  pub few : length (listed ms) ≤ 16
-  pub each : AllByRecursion Fits64 (listed ms)
-  pub zeros : ms ≡ stored (listed ms)
+-- at most 16 marks
+abbrev pub MarksFit : List ℕ → Type 0
+MarksFit ms = (length ms ≤ 16) × AllByRecursion Fits64 ms
 
 -- a form that a program can hold: its numbers have 64 bits
 abbrev pub FormFits : Form → Type 0

@@ -1,14 +1,8 @@
+use crate::marks::Marks;
 use protocol::{Step, Subject};
 
-/// The marks of a line form, in the order written: at most 16, with zeros behind them.
-#[derive(Clone, Copy)]
-pub struct Marks {
-    pub(crate) values: [u64; 16],
-    pub(crate) count: usize,
-}
-
 /// One form of a script, as written: its numbers are any below 2^64.
-#[derive(Clone, Copy)]
+#[derive(Drop)]
 pub enum Form {
     Line {
         counters: u64,

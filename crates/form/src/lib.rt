@@ -6,4 +6,5 @@ mod forms;
 mod marks;
 mod writer;
 
-pub use forms::{Form, Marks};
+pub use forms::Form;
+pub use marks::Marks;

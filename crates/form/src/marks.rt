@@ -1,36 +1,45 @@
-ghost use Rattle.std.specs.Prelude.{◌≡◌, []};
-ghost use Rattle.form.specs.Marks.{listed, stored, added, room_for};
+ghost use Rattle.std.specs.Prelude.{◌≡◌, ◌↔◌, [], IsOk, IsTrue};
+ghost use Rattle.form.specs.Marks.{added, room_for};
 
-use crate::forms::Marks;
+use arrayvec::{ArrayVec, CapacityError};
+use std::marker::Model;
+
+/// The marks of a line form, in the order written: at most 16.
+#[derive(Drop)]
+pub struct Marks {
+    list: ArrayVec<u64, 16>,
+}
+
+impl Model for Marks {
+    ghost use Rattle.std.specs.Prelude.{ℕ, List};
+
+    ghost Value = { List ℕ };
+
+    ghost view = { λ m. m.list.items };
+}
 
 impl Marks {
     /// No marks.
     pub fn new() -> Marks
-        ensures { result ≡ stored [] }
+        ensures { result ≡ [] }
     {
         Marks {
-            values: [0; 16],
-            count: 0,
+            list: ArrayVec::new(),
         }
     }
 
-    /// One mark more, and whether there was room for it.
-    pub fn push(&mut self, mark: u64) -> bool
-        ensures answer { result ≡ room_for self.old }
+    /// One mark more, if there is room for it.
+    pub fn push(&mut self, mark: u64) -> Result<(), CapacityError<u64>>
+        ensures answer { IsOk result ↔ IsTrue (room_for self.old) }
         ensures after { self.new ≡ added self.old mark }
     {
-        if self.count >= 16 {
-            return false;
-        }
-        self.values[self.count] = mark;
-        self.count += 1;
-        true
+        self.list.try_push(mark)
     }
 
     /// The marks.
     pub fn as_slice(&self) -> &[u64]
-        ensures { result.now ≡ listed self.now }
+        ensures { result.now ≡ self.now }
     {
-        &self.values[0..self.count.min(16)]
+        self.list.as_slice()
     }
 }

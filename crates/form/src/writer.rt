@@ -1,26 +1,12 @@
-ghost use Rattle.std.specs.Prelude.{◌≡◌, [], ◌∷◌, ◌++◌, IfOk, codes, decimal};
+ghost use Rattle.std.specs.Prelude.{◌≡◌, ◌++◌, IfOk};
 ghost use Rattle.form.specs.Format.{marked, stepped, subjected, written};
-ghost use Rattle.form.specs.Marks.{listed};
-ghost use Rattle.text.specs.Shown.{extended, shown};
+ghost use Rattle.text.specs.Shown.{shown};
 
-use crate::forms::{Form, Marks};
+use crate::forms::Form;
+use crate::marks::Marks;
 use protocol::{Step, Subject};
 use std::alloc::AllocError;
 use text::Text;
-
-// Two numbers, each behind its words.
-fn put_two(text: Text, head: &[u8], a: u64, middle: &[u8], b: u64) -> Result<Text, AllocError>
-    ensures { IfOk result (λ t. shown t ≡ extended (shown text) (head.now ∷ decimal a ∷ middle.now ∷ decimal b ∷ [])) }
-{
-    text.put(head)?.put_number(a)?.put(middle)?.put_number(b)
-}
-
-// The whole of a form that has just two numbers.
-fn put_pair(text: Text, head: &[u8], a: u64, middle: &[u8], b: u64) -> Result<Text, AllocError>
-    ensures { IfOk result (λ t. shown t ≡ shown text ++ (head.now ++ (decimal a ++ (middle.now ++ (decimal b ++ codes "))"))))) }
-{
-    put_two(text, head, a, middle, b)?.put(b"))")
-}
 
 fn put_step(text: Text, step: Step) -> Result<Text, AllocError>
     ensures { IfOk result (λ t. shown t ≡ shown text ++ stepped step) }
@@ -36,52 +22,39 @@ fn put_subject(text: Text, subject: Subject) -> Result<Text, AllocError>
     ensures { IfOk result (λ t. shown t ≡ shown text ++ subjected subject) }
 {
     match subject {
-        Subject::Item { originator, serial } => put_two(
-            text, b"(item ", originator, b" ", serial,
-        )?.put(b")"),
+        Subject::Item { originator, serial } => text
+            .put_field(b"(item ", originator)?
+            .put_field(b" ", serial)?
+            .put(b")"),
         Subject::Ballot {
             originator,
             case,
             round,
-        } => {
-            put_two(text, b"(ballot ", originator, b" ", case)?
-                .put(b" ")?
-                .put_number(round)?
-                .put(b")")
-        }
+        } => text
+            .put_field(b"(ballot ", originator)?
+            .put_field(b" ", case)?
+            .put_field(b" ", round)?
+            .put(b")"),
     }
 }
 
 fn put_marks(mut text: Text, marks: &Marks) -> Result<Text, AllocError>
-    ensures { IfOk result (λ t. shown t ≡ shown text ++ marked (listed marks.now)) }
+    ensures { IfOk result (λ t. shown t ≡ shown text ++ marked marks.now) }
 {
     for mark in marks.as_slice() {
-        text = text.put(b" ")?.put_number(*mark)?;
+        text = text.put_field(b" ", *mark)?;
     }
     Ok(text)
 }
 
-fn put_line(text: Text, counters: u64, tolerate: u64, strange: Marks) -> Result<Text, AllocError>
-    ensures { IfOk result (λ t. shown t ≡ shown text ++ written (Form.Line counters tolerate strange)) }
+fn put_line(text: Text, counters: u64, tolerate: u64, strange: &Marks) -> Result<Text, AllocError>
+    ensures { IfOk result (λ t. shown t ≡ shown text ++ written (Form.Line counters tolerate strange.now)) }
 {
-    let text = put_two(
-        text,
-        b"(line (counters ",
-        counters,
-        b") (tolerate ",
-        tolerate,
-    )?
-    .put(b") (strange")?;
-    put_marks(text, &strange)?.put(b"))")
-}
-
-fn put_open(text: Text, counter: u64, case: u64, vote: u64) -> Result<Text, AllocError>
-    ensures { IfOk result (λ t. shown t ≡ shown text ++ written (Form.Open counter case vote)) }
-{
-    put_two(text, b"(open (counter ", counter, b") (case ", case)?
-        .put(b") (vote ")?
-        .put_number(vote)?
-        .put(b"))")
+    let text = text
+        .put_field(b"(line (counters ", counters)?
+        .put_field(b") (tolerate ", tolerate)?
+        .put(b") (strange")?;
+    put_marks(text, strange)?.put(b"))")
 }
 
 fn put_forge(
@@ -94,11 +67,13 @@ fn put_forge(
 ) -> Result<Text, AllocError>
     ensures { IfOk result (λ t. shown t ≡ shown text ++ written (Form.Forge from to step subject body)) }
 {
-    let text = put_two(text, b"(forge (from ", from, b") (to ", to)?.put(b") (")?;
+    let text = text
+        .put_field(b"(forge (from ", from)?
+        .put_field(b") (to ", to)?
+        .put(b") (")?;
     let text = put_step(text, step)?.put(b" ")?;
     put_subject(text, subject)?
-        .put(b") (body ")?
-        .put_number(body)?
+        .put_field(b") (body ", body)?
         .put(b"))")
 }
 
@@ -107,45 +82,40 @@ impl Form {
     pub fn write_to(&self, text: Text) -> Result<Text, AllocError>
         ensures { IfOk result (λ t. shown t ≡ shown text ++ written self.now) }
     {
-        match *self {
+        match self {
             Form::Line {
                 counters,
                 tolerate,
                 strange,
-            } => put_line(text, counters, tolerate, strange),
-            Form::Announce { counter, tag } => put_pair(
-                text,
-                b"(announce (counter ",
-                counter,
-                b") (tag ",
-                tag,
-            ),
+            } => put_line(text, *counters, *tolerate, strange),
+            Form::Announce { counter, tag } => text
+                .put_field(b"(announce (counter ", *counter)?
+                .put_field(b") (tag ", *tag)?
+                .put(b"))"),
             Form::Open {
                 counter,
                 case,
                 vote,
-            } => put_open(text, counter, case, vote),
+            } => text
+                .put_field(b"(open (counter ", *counter)?
+                .put_field(b") (case ", *case)?
+                .put_field(b") (vote ", *vote)?
+                .put(b"))"),
             Form::Forge {
                 from,
                 to,
                 step,
                 subject,
                 body,
-            } => put_forge(text, from, to, step, subject, body),
-            Form::Deliver { counter, pick } => put_pair(
-                text,
-                b"(deliver (counter ",
-                counter,
-                b") (pick ",
-                pick,
-            ),
-            Form::Advance { counter, case } => put_pair(
-                text,
-                b"(advance (counter ",
-                counter,
-                b") (case ",
-                case,
-            ),
+            } => put_forge(text, *from, *to, *step, *subject, *body),
+            Form::Deliver { counter, pick } => text
+                .put_field(b"(deliver (counter ", *counter)?
+                .put_field(b") (pick ", *pick)?
+                .put(b"))"),
+            Form::Advance { counter, case } => text
+                .put_field(b"(advance (counter ", *counter)?
+                .put_field(b") (case ", *case)?
+                .put(b"))"),
         }
     }
 }

@@ -8,7 +8,6 @@ use Rattle.form.specs.declared.forms.Form.TheVariants.{Line, Announce, Open as O
 use Rattle.form.specs.declared.forms.Marks.{Marks}
 use Rattle.form.specs.Format.{Fits64, FormFits, stepped}
 use Rattle.grammar.specs.Grammar.{Shape, done, word, field, commands, command, line, announce, opening, forge, deliver, advance, form, all_marks}
-use Rattle.form.specs.Marks.{listed}
 use Rattle.grammar.proofs.Machine.{good, Yields, Live}
 use Rattle.grammar.proofs.PartLaws.{Part, Branch, Offered, fielded, field_part, behind, ahead, both, both_free, branch, choice}
 use Rattle.grammar.proofs.Values.{step_part, subject_part, subject_tokens, mark_tokens, strange_part}
@@ -23,7 +22,7 @@ named (Deliver c n) = codes "deliver"
 named (Advance c n) = codes "advance"
 
 abbrev detailed : Form → List (List ℕ) → List (List ℕ)
-detailed (Line n t ms) rest = fielded (codes "counters") n (fielded (codes "tolerate") t (codes " " ∷ codes "(" ∷ codes "strange" ∷ mark_tokens (listed ms) (codes ")" ∷ rest)))
+detailed (Line n t ms) rest = fielded (codes "counters") n (fielded (codes "tolerate") t (codes " " ∷ codes "(" ∷ codes "strange" ∷ mark_tokens ms (codes ")" ∷ rest)))
 detailed (Announce c t) rest = fielded (codes "counter") c (fielded (codes "tag") t (codes ")" ∷ rest))
 detailed (Opening c n v) rest = fielded (codes "counter") c (fielded (codes "case") n (fielded (codes "vote") v (codes ")" ∷ rest)))
 detailed (Forge f c st su b) rest =

@@ -10,7 +10,6 @@ use Rattle.token.specs.Tokens.{pieces}
 use Rattle.form.specs.declared.forms.Form.{Form}
 use Rattle.form.specs.declared.forms.Form.TheVariants.{Line, Announce, Open as Opening, Forge, Deliver, Advance}
 use Rattle.form.specs.Format.{Fits64, SubjectFits, FormFits, stepped, marked, subjected, written}
-use Rattle.form.specs.Marks.{listed}
 use Rattle.grammar.proofs.Commands.{tokens}
 use Rattle.grammar.proofs.Digits.{pieces_decimal}
 use Rattle.grammar.proofs.Values.{subject_tokens, mark_tokens}
@@ -52,7 +51,7 @@ strange_cut [] = refl
 strange_cut (m ∷ ms) = refl
 
 pub pieces_written : (f : Form) → FormFits f → pieces (written f) ≡ tokens f
-pieces_written (Line n t ms) h = rw (closed n _ h.0, closed t _ h.1.0, strange_cut (listed ms), marks_cut (listed ms) h.1.1.each)
+pieces_written (Line n t ms) h = rw (closed n _ h.0, closed t _ h.1.0, strange_cut ms, marks_cut ms h.1.1.1)
 pieces_written (Announce c t) h = rw (closed c _ h.0, closed t _ h.1)
 pieces_written (Opening c n v) h = rw (closed c _ h.0, closed n _ h.1.0, closed v _ h.1.1)
 pieces_written (Forge f c st su b) h = rw (closed f _ h.0, closed c _ h.1.0, step_cut st, subject_cut su _ h.1.1.0, closed b _ h.1.1.1)

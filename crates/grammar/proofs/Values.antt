@@ -147,20 +147,6 @@ marks_part : (n : ℕ) (ms : List ℕ) → Part (marks n ms) (λ xs. ms ++ xs) (
 marks_part zero ms = last_mark ms
 marks_part (suc n) ms = more_marks ms n (λ m. marks_part n (ms ++ m ∷ []))
 
-listed_stored : (xs : List ℕ) → listed (stored xs) ≡ xs
-listed_stored xs = take_at xs (replicate (16 - length xs) 0) (length xs) refl
-
-stored_fits : (xs : List ℕ) → MarkFits 16 xs → MarksFit (stored xs)
-stored_fits xs h =
-    let same = sym (listed_stored xs) in
-    record { few = subst (λ l. length l ≤ 16) same h.0; each = subst (AllByRecursion Fits64) same h.1; zeros = ap stored same }
-
--- the same, as a program keeps them
-pub strange_part : Part (λ k. marks 16 [] (λ xs. k (stored xs))) (λ ms. ms) MarksFit (λ ms. mark_tokens (listed ms))
-strange_part = record {
-  read = λ k ps f y.
-      let o = (marks_part 16 []).read (λ xs. k (stored xs)) ps f y in
-      (stored o.0, o.1, stored_fits o.0 o.2, o.3 ∙ ap (λ xs. mark_tokens xs o.1) (sym (listed_stored o.0)), o.4);
-  made = λ k ms rest f h y. (marks_part 16 []).made (λ xs. k (stored xs)) (listed ms) rest f (h.few, h.each) (subst (λ z. Yields (k z) rest f) h.zeros y);
-  live = λ k l. (marks_part 16 []).live (λ xs. k (stored xs)) (λ xs h. l (stored xs) (stored_fits xs h));
-}
+-- at most 16 of them
+pub strange_part : Part (marks 16 []) (λ ms. ms) MarksFit mark_tokens
+strange_part = marks_part 16 []

@@ -14,7 +14,6 @@ use Rattle.grammar.specs.declared.fault.FormFault.TheVariants.{Token, Unexpected
 use Rattle.form.specs.declared.forms.Form.{Form}
 use Rattle.form.specs.declared.forms.Form.TheVariants.{Line, Announce, Open as Opening, Forge, Deliver, Advance}
 use Rattle.form.specs.declared.forms.Marks.{Marks}
-use Rattle.form.specs.Marks.{stored}
 
 -- where a reader stands: a form is whole, or the next token is tested and the reader goes on by it
 pub data Shape : Type 0 where
@@ -63,7 +62,7 @@ marks zero ms k = word (codes ")") (λ _. k ms)
 marks (suc n) ms k = another (λ more. cond more (number (λ m. marks n (ms ++ m ∷ []) k)) (k ms))
 
 unfoldable pub all_marks : (Marks → Shape) → Shape
-all_marks k = marks 16 [] (λ ms. k (stored ms))
+all_marks k = marks 16 [] k
 
 abbrev pub line : (Form → Shape) → Shape
 line k =

@@ -4,17 +4,14 @@ ghost use Rattle.grammar.specs.Reads.{Pulled, Reads, Ends};
 
 use crate::fault::FormFault;
 use form::Form;
-use token::{Cursor, Token, same_bytes};
+use token::{Cursor, Token};
 
 // The next token, which has to be there.
 pub fn pull<'a>(cursor: &mut Cursor<'a>) -> Result<Token<'a>, FormFault>
     ensures { Pulled cursor.old cursor.new result }
 {
     let place = cursor.place();
-    match cursor.next()? {
-        Some(token) => Ok(token),
-        None => Err(FormFault::Unexpected(place)),
-    }
+    cursor.next()?.ok_or(FormFault::Unexpected(place))
 }
 
 // The end of the line behind a whole form.
@@ -33,8 +30,7 @@ pub fn expect(cursor: &mut Cursor<'_>, bytes: &[u8]) -> Result<(), FormFault>
     ensures { Reads cursor.old cursor.new result (word bytes.now) }
 {
     let place = cursor.place();
-    let token = pull(cursor)?;
-    if !same_bytes(token.text(), bytes) {
+    if pull(cursor)?.text() != bytes {
         return Err(FormFault::Unexpected(place));
     }
     Ok(())

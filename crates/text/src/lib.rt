@@ -9,7 +9,6 @@ use std::alloc::{AllocError, Global};
 
 #[derive(Drop)]
 pub struct Text {
-    heap: Global,
     bytes: Vec<u8>,
 }
 
@@ -19,7 +18,6 @@ impl Text {
         ensures { shown result ≡ [] }
     {
         Text {
-            heap,
             bytes: Vec::new(heap),
         }
     }
@@ -43,7 +41,14 @@ impl Text {
     pub fn put_number(self, n: u64) -> Result<Text, AllocError>
         ensures { IfOk result (λ t. shown t ≡ shown self ++ decimal n) }
     {
-        let digits = format!(in self.heap; "{n}")?;
+        let digits = format!(in *self.bytes.allocator(); "{n}")?;
         self.put(digits.as_bytes())
+    }
+
+    /// Adds words and a number behind them.
+    pub fn put_field(self, words: &[u8], n: u64) -> Result<Text, AllocError>
+        ensures { IfOk result (λ t. shown t ≡ shown self ++ (words.now ++ decimal n)) }
+    {
+        self.put(words)?.put_number(n)
     }
 }

@@ -1,5 +1,5 @@
 -- The first token of a text, as the cursor reads it.
-use Rattle.std.proofs.Common.{◌≡◌, ℕ, suc, ◌-◌, false, cond, List, [], ◌∷◌, length, take, drop, Some, None, Option, sym, refl, ap, ◌∙◌, subst, arith}
+use Rattle.std.proofs.Common.{◌≡◌, ℕ, suc, false, cond, List, [], ◌∷◌, length, take, drop, Some, None, Option, sym, refl, ap, ◌∙◌, subst, arith}
 use Rattle.std.proofs.lemmas.List.{length-take-le}
 use Rattle.std.proofs.lemmas.Bool.Decides.{nat_tests}
 use Rattle.token.specs.declared.lex.Token.{Token}
@@ -33,6 +33,6 @@ in_nothing : (r : Option Token) → Lexed [] r → First [] r
 in_nothing None h = h
 in_nothing (Some t) h = absurd (let z : ◌≡◌ {A = ℕ} 0 1 = ap (λ b. cond b 1 0) h.0 in omega arith)
 
-pub first_from_lexed : (s : List ℕ) (n : ℕ) (r : Option Token) → n ≡ spanning s → Lexed (take (n - 0) s) r → First s r
-first_from_lexed [] n r e h = in_nothing r (subst (λ m. Lexed (take m []) r) (let m : n - 0 ≡ 0 = omega arith in m) h)
-first_from_lexed (b ∷ bs) n r e h = in_place b bs r (subst (λ m. Lexed (take m (b ∷ bs)) r) (let m : n - 0 ≡ suc (running b bs) = omega arith in m) h)
+pub first_from_lexed : (s : List ℕ) (n : ℕ) (r : Option Token) → n ≡ spanning s → Lexed (take n s) r → First s r
+first_from_lexed [] n r e h = in_nothing r (subst (λ m. Lexed (take m []) r) e h)
+first_from_lexed (b ∷ bs) n r e h = in_place b bs r (subst (λ m. Lexed (take m (b ∷ bs)) r) e h)

@@ -1,47 +1,27 @@
 -- How a text is cut into tokens, and what digits write.
-use Rattle.std.proofs.Common.{◌≡◌, ℕ, suc, ◌+◌, ◌-◌, ◌*◌, ◌^◌, ◌<◌, ◌≤◌, Bool, true, false, cond, List, [], ◌∷◌, length, get_or, take, drop, Some, None, sym, refl, ap, ◌∙◌, arith}
-use Rattle.std.proofs.lemmas.List.{at_drop_more, at_drop_all}
+use Rattle.std.proofs.Common.{◌≡◌, ℕ, suc, ◌+◌, ◌-◌, ◌*◌, ◌^◌, ◌<◌, ◌≤◌, Bool, true, false, cond, List, [], ◌∷◌, length, get_or, take, drop, None, sym, refl, ap, ◌∙◌, arith}
+use Rattle.std.proofs.lemmas.List.{at_drop_more, take_rest}
 use Rattle.std.proofs.lemmas.Bool.Decides.{nat_tests}
+use Rattle.std.proofs.lemmas.List.Sums.{take_while-cons}
+use Rattle.std.specs.List.{take_while}
 use Rattle.token.specs.Tokens.{joins, front, behind, lead, pieces, running, spanning, worth_after, below64}
 
-pub worth_grows : (n : ℕ) (ds : List ℕ) → n ≤ worth_after n ds
+worth_grows : (n : ℕ) (ds : List ℕ) → n ≤ worth_after n ds
 worth_grows n [] = omega arith
 worth_grows n (c ∷ cs) = omega (arith, worth_grows (n * 10 + (c - 48)) cs)
 
 -- digits so far that pass 64 bits: so does the whole number
-pub too_large : (n c : ℕ) (cs : List ℕ) (w : ℕ) → worth_after n (c ∷ cs) ≡ w → 2 ^ 64 ≤ n * 10 + (c - 48) → below64 w ≡ None
+too_large : (n c : ℕ) (cs : List ℕ) (w : ℕ) → worth_after n (c ∷ cs) ≡ w → 2 ^ 64 ≤ n * 10 + (c - 48) → below64 w ≡ None
 too_large n c cs w e h = let g = worth_grows (n * 10 + (c - 48)) cs in grind (arith, nat_tests)
 
-pub small_enough : (n : ℕ) → n < 2 ^ 64 → below64 n ≡ Some n
-small_enough n h = grind (arith, nat_tests)
-
--- one digit more of what is left, as the loop meets it
-pub worth_more : (n m w i : ℕ) (ds : List ℕ) → worth_after n (drop i ds) ≡ w → i < length ds → m ≡ n * 10 + (get_or ds i 0 - 48) → worth_after m (drop (i + 1) ds) ≡ w
-worth_more n m w i ds e h is = ap (λ k. worth_after k (drop (i + 1) ds)) is ∙ (sym (at_drop_more (worth_after n) ds i 0 h) ∙ e)
-
+-- the same in the loop, at its digit i
 pub worth_stops : (n w i : ℕ) (ds : List ℕ) → worth_after n (drop i ds) ≡ w → i < length ds → 2 ^ 64 ≤ n * 10 + (get_or ds i 0 - 48) → below64 w ≡ None
 worth_stops n w i ds e h big = too_large n (get_or ds i 0) (drop (i + 1) ds) w (sym (at_drop_more (worth_after n) ds i 0 h) ∙ e) big
 
-pub worth_ends : (n w i : ℕ) (ds : List ℕ) → worth_after n (drop i ds) ≡ w → length ds ≤ i → n < 2 ^ 64 → Some n ≡ below64 w
-worth_ends n w i ds e h small = let all : n ≡ w = sym (at_drop_all (worth_after n) ds i h) ∙ e in grind (arith, nat_tests)
-
--- one byte more of a token, and its end
-pub one_longer : (b n w : ℕ) (xs : List ℕ) → n + running b (drop n xs) ≡ w → n < length xs → joins b (get_or xs n 0) ≡ true → (n + 1) + running b (drop (n + 1) xs) ≡ w
-one_longer b n w xs e h j =
-    let s : running b (drop n xs) ≡ suc (running b (drop (n + 1) xs)) = at_drop_more (running b) xs n 0 h ∙ ap (λ t. cond t (suc (running b (drop (n + 1) xs))) 0) j in
-    omega arith
-
-pub ends_within : (b n w : ℕ) (xs : List ℕ) → n + running b (drop n xs) ≡ w → n < length xs → joins b (get_or xs n 0) ≡ false → n ≡ w
-ends_within b n w xs e h j =
-    let s : running b (drop n xs) ≡ 0 = at_drop_more (running b) xs n 0 h ∙ ap (λ t. cond t (suc (running b (drop (n + 1) xs))) 0) j in
-    omega arith
-
-pub ends_last : (b n w : ℕ) (xs : List ℕ) → n + running b (drop n xs) ≡ w → length xs ≤ n → n ≡ w
-ends_last b n w xs e h = let s : running b (drop n xs) ≡ 0 = at_drop_all (running b) xs n h in omega arith
-
-pub starts_span : (xs : List ℕ) → 0 < length xs → (1 ≤ length xs) × (1 + running (get_or xs 0 0) (drop 1 xs) ≡ spanning xs)
-starts_span [] h = absurd (omega arith)
-starts_span (b ∷ bs) h = (omega arith, omega arith)
+-- how many bytes join, as the library counts them
+running_is : (b : ℕ) (xs : List ℕ) → running b xs ≡ length (take_while (joins b) xs)
+running_is b [] = refl
+running_is b (x ∷ xs) = let h = running_is b xs in let e = take_while-cons (joins b) x xs in grind (arith, nat_tests)
 
 -- a byte joins only a byte of its own kind
 joins_none : (b : ℕ) → joins b 0 ≡ false
@@ -87,6 +67,11 @@ pieces_first b (c ∷ cs) = go (joins b c) refl (pieces_first c cs)
 pub running_fits : (b : ℕ) (xs : List ℕ) → running b xs ≤ length xs
 running_fits b [] = omega arith
 running_fits b (x ∷ xs) = let h = running_fits b xs in grind (arith, nat_tests)
+
+-- the same of a first token; what follows a first byte is given as a pattern has it
+pub spanning_is : (s : List ℕ) → 1 ≤ length s → 1 + length (take_while (joins (get_or s 0 0)) (take (length s - 1) (drop 1 s))) ≡ spanning s
+spanning_is [] h = absurd (omega arith)
+spanning_is (b ∷ bs) h = let e = ap (λ r. length (take_while (joins b) r)) (take_rest (b ∷ bs) 1) in omega (arith, running_is b bs, e)
 
 pub spanning_fits : (s : List ℕ) → spanning s ≤ length s
 spanning_fits [] = omega arith

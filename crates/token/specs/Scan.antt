@@ -1,5 +1,5 @@
 -- What a cursor gives, token by token.
-use Rattle.std.specs.Prelude.{ℕ, ◌+◌, cond, List, [], ◌∷◌, length, drop, Some, None, Ok, Err, Option, Result}
+use Rattle.std.specs.Prelude.{ℕ, ◌+◌, cond, List, [], ◌∷◌, length, Some, None, Ok, Err, Option, Result}
 use Rattle.token.specs.declared.cursor.Cursor.{Cursor}
 use Rattle.token.specs.declared.fault.Place.{Place}
 use Rattle.token.specs.declared.fault.TokenFault.{TokenFault}
@@ -8,10 +8,10 @@ use Rattle.token.specs.Tokens.{pieces, behind, lawful, spelling, Suits}
 
 -- A cursor is known by two things: the tokens before it, and the place of the next one.
 abbrev pub left : Cursor → List (List ℕ)
-left c = pieces (drop c.at c.line.now)
+left c = pieces c.rest.now
 
 abbrev pub here : Cursor → Place
-here c = record { line = c.number; byte = c.at + 1 }
+here c = c.place
 
 -- a place some bytes on
 abbrev pub onward : Place → ℕ → Place

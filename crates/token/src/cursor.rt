@@ -1,10 +1,11 @@
-ghost use Rattle.std.specs.Prelude.{◌≤◌, length};
+ghost use Rattle.std.specs.Prelude.{◌+◌, ◌^◌, ◌<◌, length};
 
-/// A line of a script and how far it has been read.
+use crate::fault::Place;
+
+/// What is left of a script's line, and its place.
 #[derive(Drop)]
 pub struct Cursor<'a> {
-    pub(crate) line: &'a [u8],
-    pub(crate) number: u64,
-    pub(crate) at: usize,
-    ghost ok: { at ≤ length line.now },
+    pub(crate) rest: &'a [u8],
+    pub(crate) place: Place,
+    ghost fits: { place.byte + length rest.now < 2 ^ 64 },
 }

@@ -1,5 +1,5 @@
-ghost use Rattle.std.specs.Prelude.{◌≡◌, ℕ, ◌<◌, length};
-ghost use Rattle.std.specs.Str.{bytes_eq};
+ghost use Rattle.std.specs.Prelude.{◌≡◌, length};
+ghost use Rattle.std.specs.List.{take_while};
 ghost use Rattle.token.specs.Tokens.{spelling, below64, worth, number_of, joins, spanning, Lexed, First};
 
 /// One token. A word and a number borrow their bytes from the line.
@@ -27,13 +27,6 @@ impl<'a> Token<'a> {
     }
 }
 
-/// Whether two texts are equal, byte by byte.
-pub fn same_bytes(a: &[u8], b: &[u8]) -> bool
-    ensures { result ≡ bytes_eq a.now b.now }
-{
-    a == b
-}
-
 // Whether byte `b` goes on the token that byte `a` is in.
 fn same_run(a: u8, b: u8) -> bool
     ensures { result ≡ joins a b }
@@ -41,18 +34,21 @@ fn same_run(a: u8, b: u8) -> bool
     a.is_ascii_lowercase() && b.is_ascii_lowercase() || a.is_ascii_digit() && b.is_ascii_digit()
 }
 
+// How many bytes at the front go on the token that byte `b` is in.
+fn run_length(b: u8, rest: &[u8]) -> usize
+    ensures { result ≡ length (take_while (joins b) rest.now) }
+{
+    rest.iter().take_while(|c| same_run(b, **c)).count()
+}
+
 // How many bytes the first token has.
 fn span(rest: &[u8]) -> usize
     ensures { result ≡ spanning rest.now }
 {
-    if rest.is_empty() {
-        return 0;
+    match rest {
+        [] => 0,
+        [first, others @ ..] => 1 + run_length(*first, others),
     }
-    let mut n = 1;
-    while n < rest.len() && same_run(rest[0], rest[n]) {
-        n += 1;
-    }
-    n
 }
 
 // The number that digits write, if it is below 2^64.
@@ -72,32 +68,25 @@ fn value(digits: &[u8]) -> Option<u64>
 fn number(digits: &[u8]) -> Option<u64>
     ensures { result ≡ number_of digits.now }
 {
-    if digits.len() > 1 && digits[0] == b'0' {
-        return None;
+    match digits {
+        [b'0', _, ..] => None,
+        _ => value(digits),
     }
-    value(digits)
 }
 
 // The token that a whole run of bytes is, if it is one.
 fn lex<'a>(text: &'a [u8]) -> Option<Token<'a>>
     ensures { Lexed text.now result }
 {
-    if text.is_empty() {
-        return None;
-    }
-    let first = text[0];
-    match first {
+    match text.first()? {
         b'(' => Some(Token::Open),
         b')' => Some(Token::Close),
         b' ' => Some(Token::Space),
-        _ if first.is_ascii_lowercase() => Some(Token::Word(text)),
-        _ if first.is_ascii_digit() => {
-            let value = number(text)?;
-            Some(Token::Number {
-                digits: text,
-                value,
-            })
-        }
+        b'a'..=b'z' => Some(Token::Word(text)),
+        b'0'..=b'9' => number(text).map(|value| Token::Number {
+            digits: text,
+            value,
+        }),
         _ => None,
     }
 }
@@ -106,5 +95,5 @@ fn lex<'a>(text: &'a [u8]) -> Option<Token<'a>>
 pub(crate) fn first_token<'a>(rest: &'a [u8]) -> Option<Token<'a>>
     ensures { First rest.now result }
 {
-    lex(&rest[0..span(rest)])
+    lex(&rest[..span(rest)])
 }

@@ -9,4 +9,4 @@ mod scan;
 
 pub use cursor::Cursor;
 pub use fault::{Place, TokenFault};
-pub use lex::{Token, same_bytes};
+pub use lex::Token;

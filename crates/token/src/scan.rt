@@ -13,9 +13,11 @@ impl<'a> Cursor<'a> {
         ensures tokens { left result ≡ pieces line.now }
     {
         Cursor {
-            line,
-            number,
-            at: 0,
+            rest: line,
+            place: Place {
+                line: number,
+                byte: 1,
+            },
         }
     }
 
@@ -23,10 +25,7 @@ impl<'a> Cursor<'a> {
     pub fn place(&self) -> Place
         ensures { result ≡ here self.now }
     {
-        Place {
-            line: self.number,
-            byte: self.at as u64 + 1,
-        }
+        self.place
     }
 
     /// Takes the next token, if the line has one. A faulty token is not taken.
@@ -36,16 +35,13 @@ impl<'a> Cursor<'a> {
         ensures place { here self.new ≡ onward (here self.old) (taken result) }
         ensures tokens { left self.new ≡ remaining result (left self.old) }
     {
-        let rest = &self.line[self.at..];
-        if rest.is_empty() {
+        if self.rest.is_empty() {
             return Ok(None);
         }
-        let Some(token) = first_token(rest) else {
-            return Err(TokenFault {
-                place: self.place(),
-            });
-        };
-        self.at += token.text().len();
+        let token = first_token(self.rest).ok_or(TokenFault { place: self.place })?;
+        let taken = token.text().len();
+        self.rest = &self.rest[taken..];
+        self.place.byte += taken as u64;
         Ok(Some(token))
     }
 }
