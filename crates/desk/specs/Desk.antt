@@ -13,12 +13,11 @@ use Rattle.plan.specs.declared.drafts.Line.{Line}
 use Rattle.item.specs.Tags.{tagged, number_of}
 use Rattle.item.specs.declared.tags.Tag.{Tag}
 use Rattle.coin.specs.Sides.{word_side}
-use Rattle.form.specs.Marks.{listed as marks_of}
 use Rattle.form.specs.declared.forms.Form.{Form}
 use Rattle.form.specs.declared.forms.Form.TheVariants as form
-use Rattle.memory.specs.Contents.{Held, cleared}
+use Rattle.memory.specs.Contents.{Held, held, cleared}
 use Rattle.row.specs.Order.{listed, room}
-use Rattle.carriers.specs.declared.baskets.Basket.{Basket}
+use Rattle.carriers.specs.Kinds.{Basket}
 use Rattle.line.specs.Opening.{open_refusal}
 use Rattle.rules.specs.Turns.{Turn, Announce, Open, Forge, Deliver, Advance}
 use Rattle.rules.specs.Runs.{Coin}
@@ -26,7 +25,8 @@ use Rattle.runs.specs.Performed.{asked}
 use Rattle.runs.specs.declared.turns.Answer.{Answer}
 use Rattle.runs.specs.declared.turns.Turn as runs
 use Rattle.desk.specs.declared.said.Said.{Said}
-use Rattle.desk.specs.declared.said.Said.TheVariants.{Opened, Did, Refused}
+use Rattle.desk.specs.declared.said.Said.TheVariants.{Opened, Did}
+use Rattle.desk.specs.declared.desks.Desk.{Desk}
 use Rattle.desk.specs.Act.{Acted, acted, act}
 
 -- what waits in a basket, in order of age, and its places
@@ -117,25 +117,32 @@ asking (Ok turn) = Ok (asked number_of turn)
 asking (Err e) = Err e
 
 -- what is at a desk
-pub record Desk : Type 0 where
+pub record AtDesk : Type 0 where
   pub line : Option Line
   pub memory : Held
   pub waiting : List Message
 
-abbrev pub desk : Option Line → Held → List Message → Desk
+abbrev pub desk : Option Line → Held → List Message → AtDesk
 desk line h ws = record { line = line; memory = h; waiting = ws }
+
+abbrev pub state : Desk → AtDesk
+state d = desk d.line (held d.memory) (waiting_in d.basket)
+
+-- the places of its basket
+abbrev pub places : Desk → ℕ
+places d = places_of d.basket
 
 -- what a form is answered, and what is then at the desk
 pub record Done : Type 0 where
-  pub said : Said
-  pub desk : Desk
+  pub said : Result Said Refusal
+  pub desk : AtDesk
 
-abbrev pub done : Said → Desk → Done
+abbrev pub done : Result Said Refusal → AtDesk → Done
 done s d = record { said = s; desk = d }
 
-abbrev pub answered : Result Answer Refusal → Said
-answered (Ok a) = Did a
-answered (Err e) = Refused e
+abbrev pub answered : Result Answer Refusal → Result Said Refusal
+answered (Ok a) = Ok (Did a)
+answered (Err e) = Err e
 
 -- a turn on a line
 abbrev pub turns : ℕ → Line → Held → List Message → Result Turn Refusal → Acted
@@ -146,24 +153,24 @@ abbrev pub turned : Line → Acted → Done
 turned line a = done (answered a.answer) (desk (Some line) a.memory a.waiting)
 
 abbrev pub opened_by : Result Line Refusal → Held → List Message → Done
-opened_by (Ok line) h ws = done Opened (desk (Some line) h ws)
-opened_by (Err e) h ws = done (Refused e) (desk None h ws)
+opened_by (Ok line) h ws = done (Ok Opened) (desk (Some line) h ws)
+opened_by (Err e) h ws = done (Err e) (desk None h ws)
 
 abbrev pub begins : List Message → Opening → Done
 begins ws o = opened_by o.answer o.memory ws
 
 -- A form for a line is out of place while one is open, and a turn while none is.
 abbrev pub opens_at : Option Line → Held → List Message → ℕ → ℕ → List ℕ → Done
-opens_at (Some line) h ws n t ms = done (Refused LineOutOfPlace) (desk (Some line) h ws)
+opens_at (Some line) h ws n t ms = done (Err LineOutOfPlace) (desk (Some line) h ws)
 opens_at None h ws n t ms = begins ws (opens h ws n t ms)
 
 abbrev pub turns_at : ℕ → Option Line → Held → List Message → Form → Done
 turns_at capacity (Some line) h ws f = turned line (turns capacity line h ws (asks f))
-turns_at capacity None h ws f = done (Refused LineOutOfPlace) (desk None h ws)
+turns_at capacity None h ws f = done (Err LineOutOfPlace) (desk None h ws)
 
 -- what a form does at a desk with a basket of so many places
-abbrev pub acts : ℕ → Desk → Form → Done
-acts capacity d (form.Line n t ms) = opens_at d.line d.memory d.waiting n t (marks_of ms)
+abbrev pub acts : ℕ → AtDesk → Form → Done
+acts capacity d (form.Line n t ms) = opens_at d.line d.memory d.waiting n t ms
 acts capacity d (form.Announce c t) = turns_at capacity d.line d.memory d.waiting (form.Announce c t)
 acts capacity d (form.Open c k v) = turns_at capacity d.line d.memory d.waiting (form.Open c k v)
 acts capacity d (form.Forge f c st su b) = turns_at capacity d.line d.memory d.waiting (form.Forge f c st su b)

@@ -1,10 +1,9 @@
 -- How an answer is written.
 use Rattle.std.specs.Prelude.{ℕ, cond, List, ◌++◌, codes, decimal}
-use Rattle.protocol.specs.Refusals.{refusal_number}
 use Rattle.runs.specs.declared.turns.Answer.{Answer}
 use Rattle.runs.specs.declared.turns.Answer.TheVariants.{Announced, Posted, Delivered, Advanced}
 use Rattle.desk.specs.declared.said.Said.{Said}
-use Rattle.desk.specs.declared.said.Said.TheVariants.{Opened, Did, Refused}
+use Rattle.desk.specs.declared.said.Said.TheVariants.{Opened, Did}
 
 -- words with one number behind them, and with two
 abbrev pub one : List ℕ → ℕ → List ℕ
@@ -19,8 +18,7 @@ answer_text (Posted n) = one (codes "(sent ") n
 answer_text (Delivered d) = two (codes "(took (sent ") d.posted (codes ") (entered ") (cond d.accepted 1 0)
 answer_text (Advanced a) = two (codes "(advanced (round ") a.round (codes ") (sent ") a.posted
 
--- the text of an answer
+-- the text of what a form is answered
 abbrev pub said_text : Said → List ℕ
 said_text Opened = codes "(opened)"
 said_text (Did a) = answer_text a
-said_text (Refused e) = one (codes "(refused ") (refusal_number e)

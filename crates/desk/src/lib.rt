@@ -1,11 +1,11 @@
 // A desk at which the forms of a script are acted on: a line once one is open, its memory and a basket.
 #![tactic(auto)]
 
-mod acting;
+mod desks;
 mod opening;
 mod said;
 mod turning;
 mod writing;
 
-pub use acting::act_on;
+pub use desks::Desk;
 pub use said::Said;

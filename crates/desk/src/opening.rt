@@ -1,6 +1,5 @@
 // Opening a line by its form.
 ghost use Rattle.std.specs.Prelude.{◌≡◌, IfOk};
-ghost use Rattle.form.specs.Marks.{listed as marks_of};
 ghost use Rattle.memory.specs.Contents.{held};
 ghost use Rattle.desk.specs.Desk.{waiting_in, marking, drafted, opening as opened, opens};
 
@@ -20,7 +19,7 @@ const PHASES: u64 = 3;
 // A draft of the plan with these processes marked, one after another as written.
 fn draft_marked(plan: Plan, marks: &Marks) -> Result<Draft, Refusal>
     ensures plan { IfOk result (λ d. d.plan ≡ plan) }
-    ensures marks { drafted result ≡ marking plan 0 (marks_of marks.now) }
+    ensures marks { drafted result ≡ marking plan 0 marks.now }
 {
     let mut draft = Draft::new(plan);
     for mark in marks.as_slice() {
@@ -37,15 +36,9 @@ pub(crate) fn open(
     tolerate: u64,
     strange: &Marks,
 ) -> Result<Line, Refusal>
-    ensures { opened result (held memory.new) ≡ opens (held memory.old) (waiting_in basket.now) counters tolerate (marks_of strange.now) }
+    ensures { opened result (held memory.new) ≡ opens (held memory.old) (waiting_in basket.now) counters tolerate strange.now }
 {
     let plan = Plan::new(counters, tolerate, SERIALS, CASES, PHASES)?;
     let draft = draft_marked(plan, strange)?;
-    match open_line(draft, memory, basket) {
-        Ok(line) => Ok(line),
-        Err(refused) => {
-            let (refusal, _) = refused;
-            Err(refusal)
-        }
-    }
+    open_line(draft, memory, basket).map_err(|(refusal, _)| refusal)
 }

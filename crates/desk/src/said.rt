@@ -1,10 +1,8 @@
-// What a form is answered.
-use protocol::Refusal;
+// What a form that was acted on is answered.
 use runs::Answer;
 
-#[derive(Clone, Copy)]
+#[derive(Clone, Copy, Debug, PartialEq, Eq)]
 pub enum Said {
     Opened,
     Did(Answer),
-    Refused(Refusal),
 }

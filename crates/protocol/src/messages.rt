@@ -1,7 +1,10 @@
-// The types of a message. Their functions stand in `methods`, since a clause there may cite definitions that name them.
-ghost use Rattle.std.specs.Prelude.{◌<◌};
+// Messages, and what they are about.
+ghost use Rattle.std.specs.Prelude.{◌≡◌, ◌<◌};
 
-pub mod methods;
+use crate::refusals::Refusal;
+
+// Processes are numbered below this, whatever the plan.
+const PROCESSES: u64 = 16;
 
 // Where a broadcast stands for the sender: it begins it, repeats what was begun, or commits to it.
 #[derive(Clone, Copy, Debug, PartialEq, Eq)]
@@ -25,6 +28,20 @@ pub enum Subject {
     },
 }
 
+impl Subject {
+    ghost use Rattle.protocol.specs.Messages.{originator_of};
+
+    // Whose broadcast it is.
+    pub fn originator(&self) -> u64
+        ensures { result ≡ originator_of self.now }
+    {
+        match *self {
+            Subject::Item { originator, .. } => originator,
+            Subject::Ballot { originator, .. } => originator,
+        }
+    }
+}
+
 // One message from a process to another or to itself.
 #[derive(Clone, Copy, Debug, PartialEq, Eq)]
 pub struct Message {
@@ -35,4 +52,60 @@ pub struct Message {
     body: u64,
     ghost sent: { sender < 16 },
     ghost addressed: { addressee < 16 },
+}
+
+impl Message {
+    ghost use Rattle.protocol.specs.Messages.{made};
+
+    // Refused unless both ends are below 16.
+    pub fn new(
+        sender: u64,
+        addressee: u64,
+        step: Step,
+        subject: Subject,
+        body: u64,
+    ) -> Result<Message, Refusal>
+        ensures { result ≡ made sender addressee step subject body }
+    {
+        if sender >= PROCESSES || addressee >= PROCESSES {
+            return Err(Refusal::ProcessOutOfRange);
+        }
+        Ok(Message {
+            sender: sender as u8,
+            addressee: addressee as u8,
+            step,
+            subject,
+            body,
+        })
+    }
+
+    pub fn sender(&self) -> u64
+        ensures { result ≡ self.now.sender }
+    {
+        u64::from(self.sender)
+    }
+
+    pub fn addressee(&self) -> u64
+        ensures { result ≡ self.now.addressee }
+    {
+        u64::from(self.addressee)
+    }
+
+    pub fn step(&self) -> Step
+        ensures { result ≡ self.now.step }
+    {
+        self.step
+    }
+
+    pub fn subject(&self) -> Subject
+        ensures { result ≡ self.now.subject }
+    {
+        self.subject
+    }
+
+    pub fn body(&self) -> u64
+        ensures { result ≡ self.now.body }
+    {
+        self.body
+    }
 }

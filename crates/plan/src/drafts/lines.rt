@@ -3,8 +3,7 @@ ghost use Rattle.std.specs.Prelude.{◌≡◌, ◌<◌, true};
 ghost use Rattle.plan.specs.Marks.{marked};
 ghost use Rattle.plan.specs.Lines.{Becomes};
 
-use crate::drafts::methods::is_marked;
-use crate::drafts::{Draft, Line};
+use crate::drafts::{Draft, Line, is_marked};
 use crate::plans::Plan;
 
 // The line that a draft becomes. Opening calls it once memory and carrier are ready.

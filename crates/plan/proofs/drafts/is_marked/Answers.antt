@@ -3,7 +3,7 @@ use lib.Bits.{and_mask}
 use Rattle.std.proofs.lemmas.Bool.{le-ltb}
 use Rattle.plan.specs.Marks.{marked}
 use Rattle.plan.proofs.Marked.{marked_past}
-use Rattle.plan.proofs.drafts.methods.is_marked.Goals as goal
+use Rattle.plan.proofs.drafts.is_marked.Goals as goal
 
 pub returns-then-process-lt16 : goal.returns-then-process-lt16
 unfolding marked
