@@ -2,7 +2,6 @@ pub mod Arrays
 pub mod Counts
 pub mod Draws
 pub mod InPhase
-pub mod Filling
 pub mod Sifting
 pub mod Sets
 pub mod Theorem

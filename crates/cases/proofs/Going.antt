@@ -1,11 +1,12 @@
 -- How a process goes on, by the rows that the code makes and by the sets of the rule. Assumes nothing.
-use Rattle.std.proofs.Common.{◌≡◌, ℕ, ◌-◌, ◌<◌, ◌≤◌, Bool, true, false, cond, ◌&&◌, ltb, leb, List, is_some, Some, None, Option, sym, refl, ap, ◌∙◌, subst, ⊎_elim, arith}
+use Rattle.std.proofs.Common.{◌≡◌, ℕ, ◌-◌, ◌<◌, ◌≤◌, Bool, true, false, cond, ◌&&◌, ltb, leb, List, count_by, is_some, Some, None, Option, sym, refl, ap, ◌∙◌, subst, ⊎_elim, arith}
 use Rattle.std.proofs.lemmas.Bool.{both_ways, and_parts, and_from, and_right, and_cases, cond-true, cond-false, cases_Bool, le-leb, lt-leb, leb-true, leb-false}
 use Rattle.protocol.specs.Counting.{below}
 use Rattle.protocol.specs.Numbers.{ballot_number}
 use Rattle.protocol.specs.declared.votes.Ballot.{Ballot}
 use Rattle.protocol.proofs.Counting.{below_alike}
 use Rattle.plan.specs.declared.plans.Plan.{Plan}
+use Rattle.memory.proofs.Counting.{count_places}
 use Rattle.memory.specs.Contents.{Held, case_at}
 use Rattle.memory.specs.declared.records.CaseRecord.{CaseRecord}
 use Rattle.memory.specs.Places.{case_place, case_place_of}
@@ -15,7 +16,7 @@ use Rattle.consensus.proofs.Advancing.{advances}
 use Rattle.ballots.specs.Places.{ballots_at, covers, valid_at}
 use Rattle.ballots.specs.Tallies.{cell, counts, amount, only, Holds}
 use Rattle.ballots.specs.Votes.{Exactly}
-use Rattle.ballots.specs.declared.tallies.Tally.{Tally}
+use Rattle.ballots.specs.declared.tallies.ByBallot.{ByBallot}
 use Rattle.ballots.proofs.Counts.{below_zero, below_past, counts_past}
 use Rattle.ballots.proofs.Reading.{covered, holds_is, votes_behind, none_behind}
 use Rattle.ballots.proofs.Sets.{below_fewer, amount_alike}
@@ -67,8 +68,8 @@ module _ (plan : Plan) (h : Held) (i c : ℕ) where
 
   -- the rows that the code makes
   module _ (row : List (Option Ballot)) (held_row : Holds (valid_at plan h i c r) row) where
-    row_voters : below 16 (stands (cell row)) ≡ below plan.n (voters plan h i c)
-    row_voters = ap (λ (g : ℕ → Option Ballot). below 16 (stands g)) (holds_is _ row held_row) ∙ below_past 16 plan.n (voters plan h i c) plan.few (λ k l. ap is_some (behind k l))
+    row_voters : count_by is_some row ≡ below plan.n (voters plan h i c)
+    row_voters = count_places is_some None row 16 held_row.size ∙ ap (λ (g : ℕ → Option Ballot). below 16 (stands g)) (holds_is _ row held_row) ∙ below_past 16 plan.n (voters plan h i c) plan.few (λ k l. ap is_some (behind k l))
 
     row_counts : (picked : List (Option Ballot)) → covers plan h i c r ≡ true → Holds (only (lowest (plan.n - plan.t) (stands (cell row))) (cell row)) picked → amount (counts 16 (cell picked)) ≡ chosen_counts plan h i c
     unfolding lowest
@@ -84,18 +85,18 @@ module _ (plan : Plan) (h : Held) (i c : ℕ) where
     here : Holds (valid_at plan h i c r) row
     here = subst (λ (p : ℕ). Holds (valid_at plan h i c p) row) now held_row
 
-    pub stays : below 16 (stands (cell row)) < m → None ≡ step_at plan h i c
+    pub stays : count_by is_some row < m → None ≡ step_at plan h i c
     stays l = sym (cond-false (may_advance plan h i c) _ None (and_right (covers plan h i c r) _ (lt-leb _ _ (omega (arith, row_voters row here)))))
 
-    many : m ≤ below 16 (stands (cell row)) → plan.n - plan.t ≤ below plan.n (voters plan h i c)
+    many : m ≤ count_by is_some row → plan.n - plan.t ≤ below plan.n (voters plan h i c)
     many l = omega (arith, row_voters row here)
 
-    pub opened : m ≤ below 16 (stands (cell row)) → 1 ≤ q
+    pub opened : m ≤ count_by is_some row → 1 ≤ q
     opened l = omega (arith, (covered plan h i c r (many_covered (many l))).first)
 
     pub goes :
-        (picked : List (Option Ballot)) (x : Tally) (s : Step)
-        → m ≤ below 16 (stands (cell row))
+        (picked : List (Option Ballot)) (x : ByBallot ℕ) (s : Step)
+        → m ≤ count_by is_some row
         → Holds (only (lowest m (stands (cell row))) (cell row)) picked
         → x ≡ counts 16 (cell picked)
         → s ≡ step_by plan.n plan.t (kind (q - 1)) (amount x)

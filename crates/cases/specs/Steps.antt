@@ -14,10 +14,13 @@ use Rattle.consensus.specs.Validity.{Valid, Quorum, lowest}
 use Rattle.ballots.specs.Places.{ballots_at, covers, valid_at}
 use Rattle.cases.specs.declared.steps.Step.{Step}
 
+-- the side whose number is above a bound, keep if both are
+abbrev pub over : ℕ → ℕ → ℕ → Option Side
+over bound keep release = cond (nat_lt bound keep) (Some side.Keep) (cond (nat_lt bound release) (Some side.Release) None)
+
 -- the side with more proposals than a bound, keep if both have
 abbrev pub side_above : ℕ → (Ballot → ℕ) → Option Side
-side_above bound count =
-    cond (nat_lt bound (count (proposal side.Keep))) (Some side.Keep) (cond (nat_lt bound (count (proposal side.Release))) (Some side.Release) None)
+side_above bound count = over bound (count (proposal side.Keep)) (count (proposal side.Release))
 
 abbrev pub forced_side : ℕ → (Ballot → ℕ) → Option Side
 forced_side t count = side_above t count

@@ -1,6 +1,5 @@
 // The set of ballots that a process goes on by.
-ghost use Rattle.std.specs.Prelude.{◌≡◌, ◌-◌, is_some, if◌then◌else◌, None};
-ghost use Rattle.protocol.specs.Counting.{below};
+ghost use Rattle.std.specs.Prelude.{◌≡◌, count_by, is_some};
 ghost use Rattle.memory.specs.Contents.{held};
 ghost use Rattle.consensus.specs.Validity.{lowest};
 ghost use Rattle.ballots.specs.Tallies.{cell, only, Holds};
@@ -12,6 +11,7 @@ use ballots::{count, valid_ballots};
 use memory::{Memory, case_place};
 use plan::Plan;
 use protocol::Ballot;
+use std::array;
 
 // How a process goes on in a case from the round that it is in, by the valid ballots of the n - t lowest originators that
 // have one. There is nothing if it may not go on: the case is not opened or has ended, or too few ballots are valid, or
@@ -23,56 +23,23 @@ pub fn next_step(plan: &Plan, memory: &Memory, process: u64, case: u64) -> Optio
     let place = case_place(plan, process, case)?;
     let round = u64::from(memory.case_record(place).round);
     let row = valid_ballots(plan, memory, process, case, round);
-    let m = set_size(plan);
+    let m = (plan.n() - plan.t()) as usize;
     if count_all(&row) < m {
         return None;
     }
-    Some(step_by(plan, round, count(&choose_lowest(&row, m))))
-}
-
-// How many ballots a process goes on by.
-fn set_size(plan: &Plan) -> u64
-    ensures { result ≡ plan.now.n - plan.now.t }
-{
-    plan.n() - plan.t()
+    Some(step_by(plan, round - 1, count(&choose_lowest(&row, m))))
 }
 
 // How many ballots there are.
-fn count_all(row: &[Option<Ballot>; 16]) -> u64
-    ensures { result ≡ below 16 (stands (cell row.now)) }
+fn count_all(row: &[Option<Ballot>]) -> usize
+    ensures { result ≡ count_by is_some row.now }
 {
-    let mut found = 0;
-    for k in 0..16 {
-        found += one(row[k]);
-    }
-    found
-}
-
-fn one(ballot: Option<Ballot>) -> u64
-    ensures { result ≡ (if is_some ballot then 1 else 0) }
-{
-    match ballot {
-        Some(_) => 1,
-        None => 0,
-    }
+    row.iter().filter(|cast| cast.is_some()).count()
 }
 
 // The first m ballots of a row.
-fn choose_lowest(row: &[Option<Ballot>; 16], m: u64) -> [Option<Ballot>; 16]
+fn choose_lowest(row: &[Option<Ballot>; 16], m: usize) -> [Option<Ballot>; 16]
     ensures { Holds (only (lowest m (stands (cell row.now))) (cell row.now)) result }
 {
-    let mut chosen = [None; 16];
-    let mut seen = 0;
-    for k in 0..16 {
-        let ballot = row[k];
-        chosen[k] = choose(seen < m, ballot);
-        seen += one(ballot);
-    }
-    chosen
-}
-
-fn choose(wanted: bool, ballot: Option<Ballot>) -> Option<Ballot>
-    ensures { result ≡ (if wanted then ballot else None) }
-{
-    if wanted { ballot } else { None }
+    array::from_fn(|k| row[k].filter(|_| count_all(&row[..k]) < m))
 }

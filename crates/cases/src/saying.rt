@@ -1,24 +1,22 @@
 // What a set of n - t ballots says, by how many it has of each.
-ghost use Rattle.std.specs.Prelude.{◌≡◌, ◌-◌, ◌≤◌};
+ghost use Rattle.std.specs.Prelude.{◌≡◌};
 ghost use Rattle.consensus.specs.Rounds.{kind, ahead};
-ghost use Rattle.ballots.specs.Tallies.{amount, Few};
-ghost use Rattle.cases.specs.Steps.{proposed, forced_side, decided_side, say, after_third, step_by};
+ghost use Rattle.ballots.specs.Tallies.{amount};
+ghost use Rattle.cases.specs.Steps.{proposed, over, say, after_third, step_by};
 
 use crate::steps::Step;
 use ballots::Tally;
 use plan::Plan;
 use protocol::{Ballot, Side};
 
-// By a set of ballots of a round, the first one being round 1.
+// By a set of ballots of a round. Rounds count from 0 here.
 pub(crate) fn step_by(plan: &Plan, round: u64, tally: Tally) -> Step
-    requires round { 1 ≤ round }
-    requires few { Few tally }
-    ensures { result ≡ step_by plan.now.n plan.now.t (kind (round - 1)) (amount tally) }
+    ensures { result ≡ step_by plan.now.n plan.now.t (kind round) (amount tally) }
 {
     match round % 3 {
-        1 => say(Ballot::vote(side_ahead(tally))),
-        2 => say(proposed(plan.n(), tally)),
-        _ => after_third(plan.t(), tally),
+        0 => say(Ballot::vote(side_ahead(tally))),
+        1 => say(proposed(plan, tally)),
+        _ => after_third(plan, tally),
     }
 }
 
@@ -43,54 +41,34 @@ fn side_ahead(tally: Tally) -> Side
 }
 
 // A proposal of the side that more than half of all n voted for, or open.
-fn proposed(n: u64, tally: Tally) -> Ballot
-    requires { Few tally }
-    ensures { result ≡ proposed n (amount tally) }
+fn proposed(plan: &Plan, tally: Tally) -> Ballot
+    ensures { result ≡ proposed plan.now.n (amount tally) }
 {
-    if 2 * tally.keep > n {
-        Ballot::ProposeKeep
-    } else if 2 * tally.release > n {
-        Ballot::ProposeRelease
-    } else {
-        Ballot::Open
-    }
+    let keep = 2 * u64::from(tally.keep);
+    let release = 2 * u64::from(tally.release);
+    side_over(plan.n(), keep, release).map_or(Ballot::Open, Ballot::proposal)
 }
 
-fn after_third(t: u64, tally: Tally) -> Step
-    requires { t ≤ 16 }
-    ensures { result ≡ after_third t (amount tally) }
+fn after_third(plan: &Plan, tally: Tally) -> Step
+    ensures { result ≡ after_third plan.now.t (amount tally) }
 {
-    let forced = forced_side(t, tally);
+    let keep = u64::from(tally.propose_keep);
+    let release = u64::from(tally.propose_release);
+    let forced = side_over(plan.t(), keep, release);
     Step {
-        next: match forced {
-            Some(side) => Some(Ballot::vote(side)),
-            None => None,
-        },
+        next: forced.map(Ballot::vote),
         forced,
-        decides: decided_side(t, tally),
+        decides: side_over(2 * plan.t(), keep, release),
     }
 }
 
-fn forced_side(t: u64, tally: Tally) -> Option<Side>
-    requires { t ≤ 16 }
-    ensures { result ≡ forced_side t (amount tally) }
+// The side whose number is above a bound, keep if both are.
+fn side_over(bound: u64, keep: u64, release: u64) -> Option<Side>
+    ensures { result ≡ over bound keep release }
 {
-    if tally.propose_keep >= t + 1 {
+    if keep > bound {
         Some(Side::Keep)
-    } else if tally.propose_release >= t + 1 {
-        Some(Side::Release)
-    } else {
-        None
-    }
-}
-
-fn decided_side(t: u64, tally: Tally) -> Option<Side>
-    requires { t ≤ 16 }
-    ensures { result ≡ decided_side t (amount tally) }
-{
-    if tally.propose_keep >= 2 * t + 1 {
-        Some(Side::Keep)
-    } else if tally.propose_release >= 2 * t + 1 {
+    } else if release > bound {
         Some(Side::Release)
     } else {
         None

@@ -5,7 +5,7 @@ use Rattle.std.proofs.lemmas.List.{take_all}
 use Rattle.protocol.specs.Counting.{below}
 
 module _ {X : Type 0} (p : X → Bool) (d : X) where
-  count_front : (xs : List X) (n : ℕ) → n ≤ length xs → count_by p (take n xs) ≡ below n (λ k. p (get_or xs k d))
+  pub count_front : (xs : List X) (n : ℕ) → n ≤ length xs → count_by p (take n xs) ≡ below n (λ k. p (get_or xs k d))
   unfolding below
   count_front xs zero l = refl
   count_front xs (suc n) l =
