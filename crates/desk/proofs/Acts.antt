@@ -15,6 +15,8 @@ use Rattle.runs.specs.Performed.{answer_of, asked, Carried, Performed}
 use Rattle.runs.specs.declared.turns.Turn as runs
 use Rattle.runs.specs.declared.turns.Answer.{Answer}
 use Rattle.runs.specs.declared.turns.Answer.TheVariants.{Announced, Posted, Delivered, Advanced}
+use Rattle.form.specs.declared.forms.Form.{Form}
+use Rattle.desk.specs.Desk.{keeping, asks, desk, done, answered, turned, turns, turns_at}
 use Rattle.desk.specs.Act.{acted, delivering, advancing, doing, acting_by, act}
 
 alike : {r s : Result Answer Refusal} {h k : Held} {ws us : List Message} → r ≡ s → h ≡ k → ws ≡ us → acted r h ws ≡ acted s k us
@@ -86,3 +88,10 @@ module _ {C : Type 0} (listing : C → List Message) where
     pub performed : {I : Type 0} (packed : I → ℕ) (turn : runs.Turn I) (r : Result Answer Refusal) (next : Held) (y : C) → Performed behind picking line coin h packed capacity ws turn r x next (listing y) y → acted r next (listing y) ≡ act line coin h ws capacity (asked packed turn)
     performed packed turn r next y p =
         sym (ap (act line coin h ws capacity) (sym p.told) ∙ happened p.event next y p.happens p.carried ∙ alike (sym p.answer) refl refl)
+
+-- a turn that was made where a line is open
+pub turn_done : (capacity : ℕ) (o : Option Line) (line : Line) (h : Held) (ws : List Message) (form : Form) (turn : Turn) (r : Result Answer Refusal) (next : Held) (left : List Message) → o ≡ Some line → Ok turn ≡ asks form → acted r next left ≡ act line keeping h ws capacity turn → done (answered r) (desk o next left) ≡ turns_at capacity o h ws form
+turn_done capacity o line h ws form turn r next left is_open told made =
+    (λ j. done (answered r) (desk (is_open j) next left))
+    ∙ ap (turned line) (made ∙ ap (turns capacity line h ws) told)
+    ∙ ap (λ (l : Option Line). turns_at capacity l h ws form) (sym is_open)

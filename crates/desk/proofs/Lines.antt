@@ -1,5 +1,5 @@
 -- Marks one by one, and the line of a draft. Assumes nothing.
-use Rattle.std.proofs.Common.{◌≡◌, ℕ, suc, ◌+◌, ◌^◌, ◌<◌, ◌≤◌, Bool, true, false, List, length, get_or, drop, Some, None, Ok, Err, Option, Result, sym, refl, ap, ◌∙◌}
+use Rattle.std.proofs.Common.{◌≡◌, ℕ, suc, ◌+◌, ◌^◌, ◌<◌, ◌≤◌, Bool, true, false, List, length, get_or, drop, Some, None, Ok, Err, Option, Result, MatchResult, IsErrAnd, sym, refl, ap, ◌∙◌}
 use mathlib.Core.HLevel.{is_prop→PathP}
 use native.Mathlib.Bridge.{le_prop}
 use lib.Count.{ones}
@@ -13,7 +13,7 @@ use Rattle.plan.specs.declared.drafts.Draft.{Draft}
 use Rattle.plan.specs.declared.drafts.Line.{Line}
 use Rattle.protocol.specs.declared.messages.Message.{Message}
 use Rattle.memory.specs.Contents.{Held, cleared}
-use Rattle.line.specs.Opening.{open_refusal, Opened, NotOpened}
+use Rattle.line.specs.Opening.{open_refusal, Opened, NotOpened, Opens}
 use Rattle.desk.specs.Desk.{past, marking, lawful, line_if, line_of, opening, opens_with, opens_marked, opens_planned, opens}
 
 -- one mark more of a list, while the draft's plan Q is the plan P
@@ -74,15 +74,21 @@ module _ (h : Held) (ws : List Message) (n t : ℕ) (ms : List ℕ) where
     no_marks e q = by_marks (Err e) q
 
     module _ (draft : Draft) (same : draft.plan ≡ plan) (q : Ok draft.marks ≡ marking plan 0 ms) where
-      pub opened : (line : Line) (after : Held) → Opened draft h ws line after → opening (Ok line) after ≡ opens h ws n t ms
+      opened : (line : Line) (after : Held) → Opened draft h ws line after → opening (Ok line) after ≡ opens h ws n t ms
       opened line after o =
           let allowed : open_refusal plan h ws ≡ None = ap (λ (x : Plan). open_refusal x h ws) (sym same) ∙ o.allowed in
           let memory : after ≡ cleared plan h = o.memory ∙ ap (λ (x : Plan). cleared x h) same in
           ap (opening (Ok line)) memory
           ∙ ((λ i. opens_with h ws plan (sym allowed i) (sym (line_of_lem line plan draft.marks (o.plan ∙ same) o.marks) i)) ∙ by_marks (Ok draft.marks) q)
 
-      pub not_opened : (e : Refusal) (back : Draft) (after : Held) → NotOpened draft h ws e back after → opening (Err e) after ≡ opens h ws n t ms
+      not_opened : (e : Refusal) (back : Draft) (after : Held) → NotOpened draft h ws e back after → opening (Err e) after ≡ opens h ws n t ms
       not_opened e back after o =
           let why : open_refusal plan h ws ≡ Some e = ap (λ (x : Plan). open_refusal x h ws) (sym same) ∙ o.first in
           ap (opening (Err e)) o.memory
           ∙ (ap (λ (r : Option Refusal). opens_with h ws plan r (line_of plan draft.marks)) (sym why) ∙ by_marks (Ok draft.marks) q)
+
+      -- the line, or the refusal without the draft
+      pub opened_or_not : (r : Result Line (Refusal × Draft)) (q : Result Line Refusal) (after : Held) → Opens draft h ws r after → MatchResult r (λ l. q ≡ Ok l) (λ e. IsErrAnd q (λ x. x ≡ e.0)) → opening q after ≡ opens h ws n t ms
+      opened_or_not (Ok line) q after o e = ap (λ (x : Result Line Refusal). opening x after) e ∙ opened line after o
+      opened_or_not (Err refused) (Ok line) after o e = absurd e
+      opened_or_not (Err refused) (Err x) after o e = ap (λ (y : Refusal). opening (Err y) after) e ∙ not_opened refused.0 refused.1 after o

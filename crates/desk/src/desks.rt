@@ -26,8 +26,8 @@ impl<'a> Desk<'a> {
 
     // No line is open.
     pub fn new(memory: Memory<'a>, basket: Basket<'a>) -> Desk<'a>
-        ensures state { state result ≡ desk Closed (held memory) (waiting_in basket) }
-        ensures places { places result ≡ places_of basket }
+        ensures state { state result ≡ desk Closed (held memory.entry) (waiting_in basket.entry) }
+        ensures places { places result ≡ places_of basket.entry }
     {
         Desk {
             line: None,

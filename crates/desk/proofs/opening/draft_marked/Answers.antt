@@ -1,6 +1,5 @@
 use Rattle.std.proofs.Common.{sym, refl, ap, ◌∙◌, arith}
 use Rattle.std.proofs.lemmas.Result.{err_from_is_err_and}
-use Rattle.form.specs.Marks.{listed}
 use Rattle.desk.specs.Desk.{marking}
 use Rattle.desk.proofs.Lines.{mark_one, mark_refused, marking_all}
 use Rattle.desk.proofs.opening.draft_marked.Goals as goal
@@ -21,7 +20,7 @@ returns-in_err-mark_faulty c =
     let p = err_from_is_err_and c.from_residual.result c.from_residual.ensures.1 in
     let inv = c.loop-mark.invariant in
     let start = c.new-draft.ensures in
-    let all = inv.1 ∙ (λ i. marking (start.same i) (start.none i) (listed c.args.marks.now)) in
+    let all = inv.1 ∙ (λ i. marking (start.same i) (start.none i) c.args.marks.now) in
     rw (p.1, p.2)
     record {
       plan = tt;
@@ -34,5 +33,5 @@ returns c =
     let start = c.new-draft.ensures in
     record {
       plan = inv.0 ∙ start.same;
-      marks = sym (marking_all c.new-draft.result.plan c.loop-mark.draft.marks c.as_slice-mark-items.result.now c.loop-mark.mark-index (omega arith)) ∙ inv.1 ∙ (λ i. marking (start.same i) (start.none i) (listed c.args.marks.now));
+      marks = sym (marking_all c.new-draft.result.plan c.loop-mark.draft.marks c.as_slice-mark-items.result.now c.loop-mark.mark-index (omega arith)) ∙ inv.1 ∙ (λ i. marking (start.same i) (start.none i) c.args.marks.now);
     }

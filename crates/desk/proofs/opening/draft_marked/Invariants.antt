@@ -1,5 +1,4 @@
 use Rattle.std.proofs.Common.{◌≡◌, drop}
-use Rattle.form.specs.Marks.{listed}
 use Rattle.desk.specs.Desk.{marking}
 use Rattle.desk.proofs.opening.draft_marked.Given as goal
 
@@ -7,4 +6,4 @@ use Rattle.desk.proofs.opening.draft_marked.Given as goal
 abbrev pub invariant-loop-mark : goal.invariant-loop-mark
 invariant-loop-mark l =
     (l.draft.plan ≡ l.initial.draft.plan)
-    × (marking l.initial.draft.plan l.draft.marks (drop l.mark-index l.mark-items) ≡ marking l.initial.draft.plan l.initial.draft.marks (listed l.marks))
+    × (marking l.initial.draft.plan l.draft.marks (drop l.mark-index l.mark-items) ≡ marking l.initial.draft.plan l.initial.draft.marks l.marks)
