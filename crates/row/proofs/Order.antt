@@ -1,7 +1,7 @@
 -- Which message is taken. Assumes nothing.
 use Rattle.std.proofs.Common.{◌≡◌, ℕ, zero, suc, ◌+◌, ◌<◌, ◌≤◌, Bool, true, false, cond, List, [], ◌∷◌, length, get_or, Some, None, Option, Err, Result, sym, refl, ap, ◌∙◌, subst, ⊎_elim, add-zero, zero-add, arith}
 use Rattle.std.specs.List.{remove, slice_get, enumerate_from, filter_map, cons_option}
-use Rattle.std.specs.Option.{option_map}
+use Rattle.std.specs.Option.{option_map, ok_or}
 use Rattle.std.proofs.lemmas.Option.{slice_get_past, slice_get_cases, none-some, cond_some}
 use Rattle.std.proofs.lemmas.Bool.{eqb-true, cases_lt}
 use Rattle.protocol.specs.declared.messages.Message.{Message}
@@ -10,7 +10,7 @@ use Rattle.protocol.specs.declared.refusals.Refusal.TheVariants.{NothingWaiting}
 use Rattle.protocol.specs.Bags.{count, Same}
 use Rattle.protocol.proofs.Bags.{count_cons}
 use Rattle.carrier.specs.Waiting.{addressed, waiting_for, Taken}
-use Rattle.row.specs.Order.{place, standing, found, answer_at, left_at}
+use Rattle.row.specs.Order.{place, standing, answer_at, left_at}
 use Rattle.row.proofs.Places.{removed_past}
 
 -- the place in a list of one message more, where b says whether that one is for the process
@@ -99,7 +99,7 @@ past process k (m ∷ ms) h = step (addressed process m) k h (λ j. past process
 -- nothing can be taken
 module _ (process k : ℕ) (ms : List Message) (none : waiting_for process ms ≡ 0) where
   none_answer : answer_at process k ms ≡ Err NothingWaiting
-  none_answer = ap found (ap (slice_get ms) (past process k ms none) ∙ slice_get_past ms (length ms) (omega arith))
+  none_answer = ap (λ (o : Option Message). ok_or o NothingWaiting) (ap (slice_get ms) (past process k ms none) ∙ slice_get_past ms (length ms) (omega arith))
 
   none_left : left_at process k ms ≡ ms
   none_left = ap (remove ms) (past process k ms none) ∙ removed_past ms (length ms) (omega arith)
@@ -110,7 +110,7 @@ chosen process k ms h = ⊎_elim some none (cases_lt 0 (waiting_for process ms))
   some : 0 < waiting_for process ms → Taken (answer_at process k ms) process ms (left_at process k ms)
   some lt =
       let o = out process k ms (h lt) in
-      subst (λ r. Taken r process ms (left_at process k ms)) (sym (ap found o.read)) (record { addressee = o.addressee; same = o.same })
+      subst (λ r. Taken r process ms (left_at process k ms)) (sym (ap (λ (o : Option Message). ok_or o NothingWaiting) o.read)) (record { addressee = o.addressee; same = o.same })
 
   none : waiting_for process ms ≤ 0 → Taken (answer_at process k ms) process ms (left_at process k ms)
   none le =

@@ -1,8 +1,8 @@
 -- Messages in order of posting, and which of them is taken. Assumes nothing.
-use Rattle.std.specs.Prelude.{◌≡◌, ℕ, zero, suc, ◌-◌, ◌%◌, ◌≤◌, cond, List, [], ◌∷◌, ◌++◌, length, take, Some, None, Ok, Err, Option, Result}
+use Rattle.std.specs.Prelude.{◌≡◌, ℕ, zero, suc, ◌-◌, ◌%◌, ◌≤◌, cond, List, [], ◌∷◌, ◌++◌, length, take, Ok, Err, Option, Result}
 use Rattle.std.proofs.Common.{arith, length-take}
 use Rattle.std.specs.List.{remove, slice_get}
-use Rattle.std.specs.Option.{option_map}
+use Rattle.std.specs.Option.{option_map, ok_or}
 use Rattle.protocol.specs.declared.messages.Message.{Message}
 use Rattle.protocol.specs.declared.refusals.Refusal.{Refusal}
 use Rattle.protocol.specs.declared.refusals.Refusal.TheVariants.{NothingWaiting}
@@ -34,13 +34,9 @@ place process (suc k) (m ∷ ms) = suc (place process (cond (addressed process m
 abbrev pub standing : ℕ → ℕ → List Message → Option ℕ
 standing process k ms = option_map (λ _. place process k ms) (slice_get ms (place process k ms))
 
-abbrev pub found : Option Message → Result Message Refusal
-found (Some m) = Ok m
-found None = Err NothingWaiting
-
 -- what taking number k answers and leaves
 abbrev pub answer_at : ℕ → ℕ → List Message → Result Message Refusal
-answer_at process k ms = found (slice_get ms (place process k ms))
+answer_at process k ms = ok_or (slice_get ms (place process k ms)) NothingWaiting
 
 abbrev pub left_at : ℕ → ℕ → List Message → List Message
 left_at process k ms = remove ms (place process k ms)

@@ -1,33 +1,45 @@
--- Laws of the messages in a row of places. Assumes nothing.
-use Rattle.std.proofs.Common.{◌≡◌, ℕ, zero, suc, ◌+◌, ◌<◌, Bool, true, false, cond, List, [], ◌∷◌, ◌++◌, length, get_or, take, set, is_some, Some, None, Option, sym, refl, ap, ◌∙◌, arith, length-append}
-use Rattle.std.proofs.lemmas.List.{append-nil, append_assoc, length-take, get_or-take, take_more}
-use Rattle.std.proofs.lemmas.Bool.{true≢false, false≢true}
+-- Laws of the messages in the places of a table. Assumes nothing.
+use Rattle.std.proofs.Common.{◌≡◌, ℕ, zero, suc, ◌+◌, ◌<◌, ◌≤◌, Bool, true, false, not, cond, List, [], ◌∷◌, length, get_or, set, Some, None, Option, Result, sym, refl, ap, ◌∙◌, ⊎_elim, arith}
+use Rattle.std.specs.Option.{ok_or}
+use Rattle.std.specs.List.{count_by, position, position_or_len}
+use Rattle.std.proofs.lemmas.List.{length-set, take_all}
+use Rattle.std.proofs.lemmas.List.Sums.{sum_by-cons}
+use Rattle.std.proofs.lemmas.Option.{none-some}
+use Rattle.std.proofs.lemmas.Bool.{eqb-true, false≢true, cond-true, lt-ltb, cases_lt}
 use Rattle.protocol.specs.declared.messages.Message.{Message}
+use Rattle.protocol.specs.declared.refusals.Refusal.{Refusal}
+use Rattle.protocol.specs.declared.refusals.Refusal.TheVariants.{NothingWaiting}
 use Rattle.protocol.specs.Bags.{count, Same}
 use Rattle.protocol.proofs.Bags.{count_none, count_cons, count_append, same_length}
-use Rattle.carrier.specs.Waiting.{waiting_for, Added, Removed}
+use Rattle.carrier.specs.Waiting.{addressed, waiting_for, Added, Taken, Removed}
 use Rattle.tray.specs.Layers.{kept_le}
-use Rattle.tray.specs.Tables.{in_place, is_for, messages, kept}
+use Rattle.tray.specs.Tables.{in_place, is_free, is_for, messages, kept}
 
-messages_append : (xs ys : List (Option Message)) → messages (xs ++ ys) ≡ messages xs ++ messages ys
+pub kept_all : (ps : List (Option Message)) → length ps ≤ 8 → kept ps ≡ messages ps
+kept_all ps few = ap messages (take_all 8 ps few)
+
+pub count_free : (ps : List (Option Message)) → count_by is_free ps + length (messages ps) ≡ length ps
 unfolding messages
-messages_append [] ys = refl
-messages_append (x ∷ xs) ys = ap (λ (ms : List Message). in_place x ++ ms) (messages_append xs ys) ∙ sym (append_assoc (in_place x) (messages xs) (messages ys))
+count_free [] = refl
+count_free (None ∷ ps) = omega (arith, sum_by-cons (λ o. cond (is_free o) 1 0) None ps, count_free ps)
+count_free (Some m ∷ ps) = omega (arith, sum_by-cons (λ o. cond (is_free o) 1 0) (Some m) ps, count_free ps)
 
-messages_one : (p : Option Message) → messages (p ∷ []) ≡ in_place p
+pub count_for : (process : ℕ) (ps : List (Option Message)) → count_by (is_for process) ps ≡ waiting_for process (messages ps)
 unfolding messages
-messages_one p = append-nil (in_place p)
+count_for process [] = sym (count_none (addressed process))
+count_for process (None ∷ ps) = omega (arith, sum_by-cons (λ o. cond (is_for process o) 1 0) None ps, count_for process ps)
+count_for process (Some m ∷ ps) = omega (arith, sum_by-cons (λ o. cond (is_for process o) 1 0) (Some m) ps, count_cons (addressed process) m (messages ps), count_for process ps)
 
-module _ (ps : List (Option Message)) (i : ℕ) (d : Option Message) (within : i < length ps) where
-  messages_more : messages (take (i + 1) ps) ≡ messages (take i ps) ++ in_place (get_or ps i d)
-  messages_more =
-      ap messages (take_more ps i d within) ∙ messages_append (take i ps) (get_or ps i d ∷ []) ∙ ap (λ (ms : List Message). messages (take i ps) ++ ms) (messages_one (get_or ps i d))
+none_passes : {X : Type 0} (p : X → Bool) (xs : List X) → length xs ≤ position_or_len p xs → count_by p xs ≡ 0
+none_passes p [] h = refl
+none_passes p (x ∷ xs) h = sum_by-cons (λ y. cond (p y) 1 0) x xs ∙ step (p x) h (none_passes p xs) where
+  step : (b : Bool) → length (x ∷ xs) ≤ cond (not b) (1 + position_or_len p xs) 0 → (length xs ≤ position_or_len p xs → count_by p xs ≡ 0) → cond b 1 0 + count_by p xs ≡ 0
+  step true h rest = absurd (omega arith)
+  step false h rest = omega (arith, rest (omega arith))
 
-  pub length_more : length (messages (take (i + 1) ps)) ≡ length (messages (take i ps)) + length (in_place (get_or ps i d))
-  length_more = ap length messages_more ∙ length-append (messages (take i ps)) (in_place (get_or ps i d))
-
-  pub count_more : (p : Message → Bool) → count p (messages (take (i + 1) ps)) ≡ count p (messages (take i ps)) + count p (in_place (get_or ps i d))
-  count_more p = ap (count p) messages_more ∙ count_append p (messages (take i ps)) (in_place (get_or ps i d))
+pub none_counted : {X : Type 0} (p : X → Bool) (xs : List X) → position p xs ≡ None → count_by p xs ≡ 0
+none_counted p xs h =
+    ⊎_elim (λ lt. absurd (none-some _ (sym h ∙ cond-true _ _ _ (lt-ltb _ _ lt)))) (none_passes p xs) (cases_lt (position_or_len p xs) (length xs))
 
 -- a place is written
 count_set : (p : Message → Bool) (ps : List (Option Message)) (i : ℕ) (o d : Option Message) → i < length ps → count p (messages (set ps i o)) + count p (in_place (get_or ps i d)) ≡ count p (messages ps) + count p (in_place o)
@@ -37,54 +49,35 @@ count_set p (q ∷ ps) zero o d h = omega (arith, count_append p (in_place q) (m
 count_set p (q ∷ ps) (suc i) o d h =
     omega (arith, count_append p (in_place q) (messages ps), count_append p (in_place q) (messages (set ps i o)), count_set p ps i o d (omega arith))
 
-pub count_for : (process : ℕ) (o : Option Message) → waiting_for process (in_place o) ≡ cond (is_for process o) 1 0
-unfolding count
-count_for process None = refl
-count_for process (Some m) = omega arith
+-- a place of a table is written
+module _ (ps : List (Option Message)) (few : length ps ≤ 8) (i : ℕ) (d : Option Message) (within : i < length ps) where
+  kept_set : (p : Message → Bool) (o : Option Message) → count p (kept (set ps i o)) + count p (in_place (get_or ps i d)) ≡ count p (kept ps) + count p (in_place o)
+  kept_set p o =
+      let before = ap (count p) (kept_all ps few) in
+      let after = ap (count p) (kept_all (set ps i o) (omega (arith, length-set ps i o))) in
+      omega (arith, before, after, count_set p ps i o d within)
 
-count_free : (p : Message → Bool) (o : Option Message) → is_some o ≡ false → count p (in_place o) ≡ 0
-count_free p None h = count_none p
-count_free p (Some m) h = absurd (true≢false h)
-
-pub length_free : (o : Option Message) → is_some o ≡ false → length (in_place o) ≡ 0
-length_free None h = refl
-length_free (Some m) h = absurd (true≢false h)
-
-pub length_used : (o : Option Message) → is_some o ≡ true → length (in_place o) ≡ 1
-length_used None h = absurd (false≢true h)
-length_used (Some m) h = refl
-
-take_of_set : {X : Type 0} (n : ℕ) (xs : List X) (i : ℕ) (x : X) → take n (set xs i x) ≡ set (take n xs) i x
-take_of_set zero xs i x = refl
-take_of_set (suc n) [] i x = refl
-take_of_set (suc n) (y ∷ ys) zero x = refl
-take_of_set {X = X} (suc n) (y ∷ ys) (suc i) x = ap (λ (zs : List X). y ∷ zs) (take_of_set n ys i x)
-
--- a place of the table is written
-kept_set : (p : Message → Bool) (ps : List (Option Message)) (i : ℕ) (o d : Option Message) → i < 8 → i < length ps → count p (kept (set ps i o)) + count p (in_place (get_or ps i d)) ≡ count p (kept ps) + count p (in_place o)
-kept_set p ps i o d few within =
-    let e : count p (kept (set ps i o)) ≡ count p (messages (set (take 8 ps) i o)) = ap (λ (xs : List (Option Message)). count p (messages xs)) (take_of_set 8 ps i o) in
-    let f : count p (in_place (get_or (take 8 ps) i d)) ≡ count p (in_place (get_or ps i d)) = ap (λ (q : Option Message). count p (in_place q)) (get_or-take 8 ps i d few) in
-    omega (arith, e, f, count_set p (take 8 ps) i o d (omega (arith, length-take 8 ps)))
-
--- qs is ps, as a loop left it
-module _ (ps qs : List (Option Message)) (same : qs ≡ ps) (at : ℕ) (few : at < 8) (within : at < length qs) (d : Option Message) where
-  count_same : (p : Message → Bool) → count p (kept qs) ≡ count p (kept ps)
-  count_same p = ap (λ (xs : List (Option Message)). count p (kept xs)) same
-
-  pub added : (m : Message) → is_some (get_or qs at d) ≡ false → Added m 8 (kept ps) (kept (set qs at (Some m)))
+  pub added : (m : Message) → is_free (get_or ps i d) ≡ true → Added m 8 (kept ps) (kept (set ps i (Some m)))
   added m free =
-      let both : Same (kept (set qs at (Some m))) (m ∷ kept ps) =
-      λ p.
-      let none : count p (in_place (get_or qs at d)) ≡ 0 = count_free p (get_or qs at d) free in
-      omega (arith, kept_set p qs at (Some m) d few within, none, count_same p, count_cons p m [], count_cons p m (kept ps), count_none p) in
-      record { room = omega (arith, same_length _ _ both, kept_le (set qs at (Some m))); same = both }
+      let both : Same (kept (set ps i (Some m))) (m ∷ kept ps) =
+      λ p. omega (arith, kept_set p (Some m), none p (get_or ps i d) free, count_cons p m [], count_cons p m (kept ps), count_none p) in
+      record { room = omega (arith, same_length _ _ both, kept_le (set ps i (Some m))); same = both } where
+        none : (p : Message → Bool) (o : Option Message) → is_free o ≡ true → count p (in_place o) ≡ 0
+        none p None h = count_none p
+        none p (Some m) h = absurd (false≢true h)
 
-  pub taken_out : (process : ℕ) (m : Message) → get_or qs at d ≡ Some m → m.addressee ≡ process → Removed m process (kept ps) (kept (set qs at None))
+  taken_out : (process : ℕ) (m : Message) → get_or ps i d ≡ Some m → m.addressee ≡ process → Removed m process (kept ps) (kept (set ps i None))
   taken_out process m here for =
       record {
         addressee = for;
         same = λ p.
-            let one : count p (in_place (get_or qs at d)) ≡ count p (m ∷ []) = ap (λ (o : Option Message). count p (in_place o)) here in
-            omega (arith, kept_set p qs at None d few within, one, count_same p, count_cons p m [], count_cons p m (kept (set qs at None)), count_none p);
+            let one : count p (in_place (get_or ps i d)) ≡ count p (m ∷ []) = ap (λ (o : Option Message). count p (in_place o)) here in
+            omega (arith, kept_set p None, one, count_cons p m [], count_cons p m (kept (set ps i None)), count_none p);
       }
+
+  -- it answered r, and has q now
+  pub taken : (process : ℕ) (r : Result Message Refusal) (q : Option Message) → is_for process (get_or ps i d) ≡ true → r ≡ ok_or (get_or ps i d) NothingWaiting → q ≡ None → Taken r process (kept ps) (kept (set ps i q))
+  taken process r q for e none = rw (e, none) (out (get_or ps i d) refl for) where
+    out : (o : Option Message) → get_or ps i d ≡ o → is_for process o ≡ true → Taken (ok_or o NothingWaiting) process (kept ps) (kept (set ps i None))
+    out None here h = absurd (false≢true h)
+    out (Some m) here h = taken_out process m here (eqb-true m.addressee process h)

@@ -1,5 +1,5 @@
 -- What posting and taking below do to both layers. Assumes nothing.
-use Rattle.std.proofs.Common.{◌≡◌, ℕ, ◌+◌, ◌≤◌, List, ◌++◌, length, IfOk, Ok, Err, Result, ap, arith, length-append}
+use Rattle.std.proofs.Common.{◌≡◌, ℕ, ◌+◌, ◌≤◌, List, ◌++◌, length, Ok, Err, Result, ap, arith, length-append}
 use Rattle.protocol.specs.declared.messages.Message.{Message}
 use Rattle.protocol.specs.declared.refusals.Refusal.{Refusal}
 use Rattle.protocol.specs.Bags.{count}
@@ -45,8 +45,3 @@ module _ (own new : List Message) (same : new ≡ own) (below after : List Messa
       }
   taken_below (Err e) process none t =
       record { why = t.why; none = omega (arith, t.none, none, count_append (addressed process) own below); same = λ i. same i ++ t.same i }
-
--- where a carrier says nothing of its order
-pub unordered : {X : Type 0} (r : Result X Refusal) → IfOk r (λ _. Unit {0})
-unordered (Ok x) = tt
-unordered (Err e) = tt

@@ -1,11 +1,14 @@
 -- The messages in the places of a table. Assumes nothing.
-use Rattle.std.specs.Prelude.{ℕ, Bool, false, List, [], ◌∷◌, ◌++◌, take, Some, None, Option}
+use Rattle.std.specs.Prelude.{ℕ, Bool, false, not, List, [], ◌∷◌, ◌++◌, take, is_some, Some, None, Option}
 use Rattle.protocol.specs.declared.messages.Message.{Message}
 use Rattle.carrier.specs.Waiting.{addressed}
 
 abbrev pub in_place : Option Message → List Message
 in_place None = []
 in_place (Some m) = m ∷ []
+
+abbrev pub is_free : Option Message → Bool
+is_free o = not (is_some o)
 
 abbrev pub is_for : ℕ → Option Message → Bool
 is_for process None = false

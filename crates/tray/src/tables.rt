@@ -3,7 +3,7 @@ use protocol::Message;
 
 pub mod methods;
 
-// Each place has a message or is free, in no order.
+// Each place has a message or is free, in no order. A plain table, as docs/DECISIONS.md gives it.
 #[derive(Drop)]
 pub struct Table {
     places: [Option<Message>; 8],

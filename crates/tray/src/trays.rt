@@ -28,7 +28,8 @@ impl<C: Carrier> Tray<C> {
     }
 }
 
-// A tray says nothing of the order in which it takes messages.
+// A tray says nothing of the order in which it takes messages. Its two `match` are no `or_else`, since a proof does not
+// see there what the closure changes below.
 impl<C: Carrier> Carrier for Tray<C> {
     ghost waiting = { λ x. kept x.table.places ++ C.Carrier.waiting x.below };
 

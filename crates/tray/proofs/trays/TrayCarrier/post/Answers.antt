@@ -1,26 +1,17 @@
-use Rattle.std.proofs.Common.{ℕ, ◌+◌, refl, ap, arith}
+use Rattle.std.proofs.Common.{arith}
 use Rattle.tray.specs.Layers.{kept_le}
 use Rattle.tray.specs.Tables.{kept}
-use Rattle.tray.proofs.Layered.{own_added, posted_below, unordered}
+use Rattle.tray.proofs.Layered.{own_added, posted_below}
 use Rattle.tray.proofs.trays.TrayCarrier.post.Goals as goal
 
-pub returns-in-Ok : goal.returns-in-Ok
-returns-in-Ok g c =
-    let tray = c.args.self.now in
+pub returns-in-Ok-clause-posted : goal.returns-in-Ok-clause-posted
+returns-in-Ok-clause-posted g c =
+    let below = c.args.self.now.below in
     let carrier = g.C.Carrier in
-    record {
-      kept = refl;
-      posted = own_added _ _ (carrier.waiting tray.below) _ (carrier.capacity tray.below) (carrier.fits tray.below) c.in-Ok.ensures;
-      told = tt;
-    }
+    own_added _ _ (carrier.waiting below) _ (carrier.capacity below) (carrier.fits below) c.in-Ok.ensures
 
-pub returns-in-Err : goal.returns-in-Err
-returns-in-Err g c =
-    let table = c.args.self.now.table in
+pub returns-in-Err-clause-posted : goal.returns-in-Err-clause-posted
+returns-in-Err-clause-posted g c =
+    let places = c.args.self.now.table.places in
     let own = c.in-Err.ensures in
-    let below = c.post-in-Err.ensures in
-    record {
-      kept = ap (λ (n : ℕ). 8 + n) below.kept;
-      posted = posted_below (kept table.places) _ own.same _ _ c.post-in-Err.result _ _ (omega (arith, own.full, kept_le table.places)) below.posted;
-      told = unordered c.post-in-Err.result;
-    }
+    posted_below (kept places) _ own.same _ _ c.post-in-Err.result _ _ (omega (arith, own.full, kept_le places)) c.post-in-Err.ensures.posted
