@@ -10,7 +10,7 @@ use Rattle.token.specs.Tokens.{behind, lawful, spelling}
 use Rattle.grammar.specs.declared.fault.FormFault.TheVariants.{Token, Unexpected}
 use Rattle.form.specs.declared.forms.Form.{Form}
 use Rattle.grammar.specs.Grammar.{Shape, done, next, run}
-use Rattle.grammar.specs.Reads.{ahead, Pulled, Ends}
+use Rattle.grammar.specs.Reads.{Pulled, Ends}
 
 -- a test on the first token, once it is known
 abbrev choice : Bool → Place → List ℕ → Result (Option (List ℕ)) TokenFault

@@ -1,9 +1,9 @@
 -- The loop that reads marks.
-use Rattle.std.proofs.Common.{◌≡◌, ℕ, suc, ◌+◌, ◌-◌, ◌<◌, ◌≤◌, true, cond, ltb, List, [], ◌∷◌, ◌++◌, length, Option, Some, None, Ok, Err, codes, sym, refl, ap, ◌∙◌, arith, length-append, lt-ltb}
+use Rattle.std.proofs.Common.{◌≡◌, ℕ, suc, ◌+◌, ◌-◌, ◌<◌, true, cond, ltb, List, [], ◌∷◌, ◌++◌, length, Option, Some, None, Ok, Err, sym, refl, ap, ◌∙◌, arith, length-append, lt-ltb}
 use Rattle.token.specs.declared.cursor.Cursor.{Cursor}
 use Rattle.grammar.specs.declared.fault.FormFault.{FormFault}
 use Rattle.form.specs.Marks.{added}
-use Rattle.grammar.specs.Grammar.{Shape, mark, by_mark, word, marks, all_marks}
+use Rattle.grammar.specs.Grammar.{Shape, mark, by_mark, marks, all_marks}
 use Rattle.grammar.specs.Reads.{ahead, Reads}
 
 -- from cursor c to d, i marks were read: those of ms
@@ -24,9 +24,6 @@ module _ (c d : Cursor) (i : ℕ) (ms : List ℕ) (s : Sofar c d i ms) where
   next_turn : i < 16 → (k : List ℕ → Shape) → ahead c (all_marks k) ≡ ahead d (mark (on i ms k))
   next_turn h k = let e : 16 - i ≡ suc (16 - (i + 1)) = omega arith in s.onto k ∙ ap (λ n. ahead d (marks n ms k)) e
 
-  last_turn : 16 ≤ i → (k : List ℕ → Shape) → ahead c (all_marks k) ≡ ahead d (word (codes ")") (λ _. k ms))
-  last_turn h k = let e : 16 - i ≡ 0 = omega arith in s.onto k ∙ ap (λ n. ahead d (marks n ms k)) e
-
   pub mark_fault : (e : Cursor) (x : FormFault) → i < 16 → Reads d e (Err x) mark → Reads c e (Err x) all_marks
   mark_fault e x h r = λ k. next_turn h k ∙ r (on i ms k)
 
@@ -41,9 +38,3 @@ module _ (c d : Cursor) (i : ℕ) (ms : List ℕ) (s : Sofar c d i ms) where
         many = omega (arith, length-append ms (m ∷ []), s.many, ap length same);
         onto = λ k. next_turn h k ∙ (r (on i ms k) ∙ (ap (λ x. ahead e (on i ms k x)) is ∙ ap (λ x. ahead e (marks (16 - (i + 1)) x k)) (sym same)));
       }
-
-  pub last_fault : (e : Cursor) (x : FormFault) → 16 ≤ i → Reads d e (Err x) (word (codes ")")) → Reads c e (Err x) all_marks
-  last_fault e x h r = λ k. last_turn h k ∙ r (λ _. k ms)
-
-  pub last_closed : (e : Cursor) → 16 ≤ i → Reads d e (Ok tt) (word (codes ")")) → Reads c e (Ok ms) all_marks
-  last_closed e h r = λ k. last_turn h k ∙ r (λ _. k ms)

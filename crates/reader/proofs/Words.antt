@@ -15,7 +15,6 @@ use Rattle.grammar.specs.Reads.{ahead, Pulled}
 pub at_word : (c d : Cursor) (t : Token) (p w : List ℕ) → Pulled c d (Ok t) → p ≡ spelling t → p ≡ w → (fits : List ℕ → Bool) (then : List ℕ → Shape) → ahead c (next fits then) ≡ cond (fits w) (ahead d (then w)) (Err (Unexpected (here c)))
 at_word c d t p w h e is fits then = h.1 fits then ∙ ap (λ q. cond (fits q) (ahead d (then q)) (Err (Unexpected (here c)))) (sym e ∙ is)
 
-
 -- a token that is none of some words
 abbrev pub Unlike : List ℕ → List (List ℕ) → Type 0
 Unlike p [] = Unit {0}

@@ -54,9 +54,7 @@ fn read_step(cursor: &mut Cursor<'_>) -> Result<Step, FormFault>
     ensures { Reads cursor.old cursor.new result step }
 {
     let place = cursor.place();
-    let token = pull(cursor)?;
-    let name = token.text();
-    match name {
+    match pull(cursor)?.text() {
         b"initial" => Ok(Step::Initial),
         b"echo" => Ok(Step::Echo),
         b"ready" => Ok(Step::Ready),
@@ -93,9 +91,7 @@ fn read_subject(cursor: &mut Cursor<'_>) -> Result<Subject, FormFault>
     expect(cursor, b" ")?;
     expect(cursor, b"(")?;
     let place = cursor.place();
-    let token = pull(cursor)?;
-    let name = token.text();
-    match name {
+    match pull(cursor)?.text() {
         b"item" => read_item(cursor),
         b"ballot" => read_ballot(cursor),
         _ => Err(FormFault::Unexpected(place)),
@@ -128,9 +124,7 @@ fn next_mark(cursor: &mut Cursor<'_>) -> Result<Option<u64>, FormFault>
     ensures { Reads cursor.old cursor.new result mark }
 {
     let place = cursor.place();
-    let token = pull(cursor)?;
-    let name = token.text();
-    match name {
+    match pull(cursor)?.text() {
         b")" => Ok(None),
         b" " => Ok(Some(read_number(cursor)?)),
         _ => Err(FormFault::Unexpected(place)),
@@ -172,9 +166,7 @@ fn read_command(cursor: &mut Cursor<'_>) -> Result<Form, FormFault>
     ensures { Reads cursor.old cursor.new result command }
 {
     let place = cursor.place();
-    let token = pull(cursor)?;
-    let name = token.text();
-    match name {
+    match pull(cursor)?.text() {
         b"line" => read_line(cursor),
         b"announce" => read_announce(cursor),
         b"open" => read_open(cursor),
