@@ -8,7 +8,8 @@ use grammar::{FormFault, expect, finish, pull, read_arg, read_field, read_number
 use protocol::{Step, Subject};
 use token::Cursor;
 
-// Each of these reads the rest of its form, behind the word that names it.
+// Each of these reads the rest of its form, behind the word that names it. One function for the forms of two numbers
+// would be handed a field's name and a way to make the form, and be no shorter.
 fn read_announce(cursor: &mut Cursor<'_>) -> Result<Form, FormFault>
     ensures { Reads cursor.old cursor.new result announce }
 {

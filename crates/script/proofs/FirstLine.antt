@@ -1,12 +1,13 @@
 -- The lines of a script, one by one.
-use Rattle.std.proofs.Common.{◌≡◌, ℕ, suc, ◌+◌, ◌-◌, ◌<◌, ◌≤◌, Bool, true, false, cond, not, eqb, ◌⊎◌, Option, Some, None, List, [], ◌∷◌, ◌++◌, length, get_or, take, drop, codes, sym, refl, ap, ◌∙◌, append_assoc, append-nil, arith}
+use Rattle.std.proofs.Common.{◌≡◌, ℕ, suc, ◌+◌, ◌-◌, ◌<◌, Bool, true, false, cond, not, eqb, Option, Some, None, List, [], ◌∷◌, length, rules, take, drop, sym, refl, ap, ◌∙◌, arith}
 use Rattle.std.proofs.lemmas.List.{drop-drop, nil_from_length, take_rest}
-use Rattle.std.specs.List.{position, position_or_len, slice_range}
-use Rattle.std.specs.Option.{unwrap_or, MatchOption}
+use Rattle.std.specs.List.{position, position_or_len}
+use Rattle.std.specs.Option.{unwrap_or}
 use Rattle.std.proofs.lemmas.List.Recursion.{is_position_or_len}
 use Rattle.std.proofs.lemmas.List.Sums.{prefix_len-le-length}
 use Rattle.std.proofs.lemmas.Bool.Decides.{nat_tests}
 use Rattle.std.specs.Borrow.{Bor}
+use Rattle.std.specs.Slice.{IsGetRangeResult}
 use Rattle.script.specs.Lint.{lines, on_line, line_length}
 
 -- a line break ends the line, and any other byte goes on it
@@ -40,9 +41,9 @@ pub length_from_break : (s : List ℕ) (o : Option ℕ) (k : ℕ) → o ≡ posi
 length_from_break s o k e u = let w = length_is s in let b = prefix_len-le-length (λ x. not (eqb x 10)) s in grind (arith, nat_tests)
 
 -- what is behind the break that begins b, if there is one
-pub behind_break : (b : Bor (List ℕ)) (o : Option (Bor (List ℕ))) (r : Bor (List ℕ)) → MatchOption o ((length b.now < 1) ⊎ (length b.now < length b.now)) (λ x. (1 ≤ length b.now) × ((length b.now ≤ length b.now) × ((x.now ≡ slice_range b.now 1 (length b.now)) × (length x.now + 1 ≡ length b.now)))) → r ≡ unwrap_or o b → r.now ≡ drop 1 b.now
-behind_break b None r h e = let none : length b.now ≡ 0 = omega (arith, h) in ap (λ x. x.now) e ∙ (nil_from_length b.now none ∙ sym (ap (drop 1) (nil_from_length b.now none)))
-behind_break b (Some x) r h e = ap (λ x. x.now) e ∙ (h.1.1.0 ∙ take_rest b.now 1)
+pub behind_break : (b : Bor (List ℕ)) (o : Option (Bor (List ℕ))) (r : Bor (List ℕ)) → IsGetRangeResult b.now 1 (length b.now) o → r ≡ unwrap_or o b → r.now ≡ drop 1 b.now
+behind_break b None r h e = let none : length b.now ≡ 0 = omega (arith, h.0) in ap (λ x. x.now) e ∙ (nil_from_length b.now none ∙ sym (ap (drop 1) (nil_from_length b.now none)))
+behind_break b (Some x) r h e = let is : x.now ≡ take (length b.now - 1) (drop 1 b.now) = search rules in ap (λ x. x.now) e ∙ (is ∙ take_rest b.now 1)
 
 pub next_line : (s f b r : List ℕ) (k : ℕ) → 0 < length s → k ≡ line_length s → f ≡ take k s → b ≡ drop k s → r ≡ drop 1 b → lines s ≡ f ∷ lines r
 next_line s f b r k h e is back on =
