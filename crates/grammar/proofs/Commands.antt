@@ -5,7 +5,6 @@ use Rattle.protocol.specs.declared.messages.Step.{Step}
 use Rattle.protocol.specs.declared.messages.Subject.{Subject}
 use Rattle.form.specs.declared.forms.Form.{Form}
 use Rattle.form.specs.declared.forms.Form.TheVariants.{Line, Announce, Open as Opening, Forge, Deliver, Advance}
-use Rattle.form.specs.declared.forms.Marks.{Marks}
 use Rattle.form.specs.Format.{Fits64, FormFits, stepped}
 use Rattle.grammar.specs.Grammar.{Shape, done, word, field, commands, command, line, announce, opening, forge, deliver, advance, form, all_marks}
 use Rattle.grammar.proofs.Machine.{good, Yields, Live}
@@ -43,7 +42,7 @@ after k p =
 abbrev Makes : {A : Type 0} → ((Form → Shape) → Shape) → (A → Form) → Type 0
 Makes part make = Part part make (λ x. FormFits (make x)) (λ x. detailed (make x))
 
-abbrev lines : ℕ × (ℕ × Marks) → Form
+abbrev lines : ℕ × (ℕ × List ℕ) → Form
 lines x = Line x.0 x.1.0 x.1.1
 
 abbrev announces : ℕ × ℕ → Form
@@ -64,8 +63,8 @@ advances x = Advance x.0 x.1
 line_part : Makes line lines
 unfolding all_marks
 line_part =
-    both (λ (n : ℕ) (x : ℕ × Marks). Line n x.0 x.1) (field_part (codes "counters") refl)
-    (both (λ (t : ℕ) (ms : Marks). (t, ms)) (field_part (codes "tolerate") refl)
+    both (λ (n : ℕ) (x : ℕ × List ℕ). Line n x.0 x.1) (field_part (codes "counters") refl)
+    (both (λ (t : ℕ) (ms : List ℕ). (t, ms)) (field_part (codes "tolerate") refl)
     (behind (behind (behind (ahead strange_part (codes ")") refl) (codes "strange") refl) (codes "(") refl) (codes " ") refl))
 
 -- a form of two numbers

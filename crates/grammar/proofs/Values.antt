@@ -1,7 +1,6 @@
 -- The values of a form that are no plain number: a step, a subject, marks.
-use Rattle.std.proofs.Common.{◌≡◌, ℕ, zero, suc, ◌-◌, ◌≤◌, cond, List, [], ◌∷◌, ◌++◌, length, replicate, codes, decimal, sym, refl, ap, ◌∙◌, subst, append_assoc, append-nil, arith}
+use Rattle.std.proofs.Common.{◌≡◌, ℕ, zero, suc, ◌≤◌, cond, List, [], ◌∷◌, ◌++◌, length, codes, decimal, sym, refl, ap, ◌∙◌, subst, append_assoc, append-nil, arith}
 use Rattle.std.proofs.lemmas.Slice.Eq.{bytes_eq-Decides}
-use Rattle.std.proofs.lemmas.List.{take_at}
 use Rattle.std.specs.List.{AllByRecursion}
 use Rattle.std.specs.Str.{bytes_eq}
 use Rattle.protocol.specs.declared.messages.Step.{Step}
@@ -11,7 +10,6 @@ use Rattle.protocol.specs.declared.messages.Subject.TheVariants.{Item, Ballot}
 use Rattle.form.specs.declared.forms.Form.{Form}
 use Rattle.form.specs.Format.{Fits64, SubjectFits, MarksFit, stepped}
 use Rattle.grammar.specs.Grammar.{Shape, number, marks, step, item, ballot, subject}
-use Rattle.form.specs.Marks.{listed, stored}
 use Rattle.grammar.proofs.Machine.{Yields, Live}
 use Rattle.grammar.proofs.PartLaws.{Part, Branch, Offered, number_part, arg_part, behind, ahead, both, branch, choice}
 

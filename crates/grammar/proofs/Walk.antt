@@ -1,5 +1,6 @@
 -- One token of a line, and what the grammar's machine does with it.
-use Rattle.std.proofs.Common.{◌≡◌, ℕ, Bool, true, false, cond, ◌&&◌, List, [], ◌∷◌, length, Some, None, Ok, Err, Option, Result, sym, refl, ap, ◌∙◌, subst, arith}
+use Rattle.std.proofs.Common.{◌≡◌, ℕ, Bool, true, false, cond, ◌&&◌, List, [], ◌∷◌, length, Some, None, Ok, Err, Option, Result, sym, refl, ap, ◌∙◌, arith}
+use Rattle.std.specs.Option.{ok_or}
 use Rattle.token.specs.declared.cursor.Cursor.{Cursor}
 use Rattle.token.specs.declared.fault.Place.{Place}
 use Rattle.token.specs.declared.fault.TokenFault.{TokenFault}
@@ -9,7 +10,7 @@ use Rattle.token.specs.Tokens.{behind, lawful, spelling}
 use Rattle.grammar.specs.declared.fault.FormFault.TheVariants.{Token, Unexpected}
 use Rattle.form.specs.declared.forms.Form.{Form}
 use Rattle.grammar.specs.Grammar.{Shape, done, next, run}
-use Rattle.grammar.specs.Reads.{ahead, Pulled, Ends}
+use Rattle.grammar.specs.Reads.{Pulled, Ends}
 
 -- a test on the first token, once it is known
 abbrev choice : Bool → Place → List ℕ → Result (Option (List ℕ)) TokenFault
@@ -69,18 +70,14 @@ unfolding run
 end_some at ps f q e = ap (run (done f) at) (got_some at ps q e).0 ∙ ap (λ b. Err (cond b (Unexpected at) (Token (record { place = at })))) (got_some at ps q e).1
 
 -- the same of a cursor: o is what its next token was
-pub after_token : (c d : Cursor) (o : Option Lexeme) (t : Lexeme) → o ≡ Some t → spelled (Ok o) ≡ scanned (here c) (left c) → Apt (Ok o) → here d ≡ onward (here c) (taken (Ok o)) → left d ≡ remaining (Ok o) (left c) → Pulled c d (Ok t)
-after_token c d None t e value kind place tokens = absurd (let z : ◌≡◌ {A = ℕ} 0 1 = cc in omega arith)
-after_token c d (Some u) t e value kind place tokens =
-    let same : u ≡ t = cc in
-    subst (λ x. Pulled c d (Ok x)) same (kind, λ fits then. pull_some (here c) (left c) (spelling u) fits then value ∙ ap (λ x. cond (fits (spelling u)) x (Err (Unexpected (here c)))) (λ i. run (then (spelling u)) (sym place i) (sym tokens i)))
+pub pulled : (c d : Cursor) (o : Option Lexeme) (at : Place) → spelled (Ok o) ≡ scanned (here c) (left c) → Apt (Ok o) → here d ≡ onward (here c) (taken (Ok o)) → left d ≡ remaining (Ok o) (left c) → at ≡ here c → Pulled c d (ok_or o (Unexpected at))
+pulled c d None at value kind place tokens is = λ fits then. pull_none (here c) (left c) fits then value ∙ ap (λ p. Err (Unexpected p)) (sym is)
+pulled c d (Some t) at value kind place tokens is =
+    (kind, λ fits then. pull_some (here c) (left c) (spelling t) fits then value ∙ ap (λ x. cond (fits (spelling t)) x (Err (Unexpected (here c)))) (λ i. run (then (spelling t)) (sym place i) (sym tokens i)))
 
-pub after_none : (c : Cursor) (o : Option Lexeme) → o ≡ None → spelled (Ok o) ≡ scanned (here c) (left c) → Ok None ≡ scanned (here c) (left c)
+after_none : (c : Cursor) (o : Option Lexeme) → o ≡ None → spelled (Ok o) ≡ scanned (here c) (left c) → Ok None ≡ scanned (here c) (left c)
 after_none c None e value = value
 after_none c (Some u) e value = absurd (let z : ◌≡◌ {A = ℕ} 0 1 = cc in omega arith)
-
-pub pulled_none : (c : Cursor) (o : Option Lexeme) (at : Place) → o ≡ None → spelled (Ok o) ≡ scanned (here c) (left c) → at ≡ here c → (fits : List ℕ → Bool) (then : List ℕ → Shape) → ahead c (next fits then) ≡ Err (Unexpected at)
-pulled_none c o at e value is fits then = pull_none (here c) (left c) fits then (after_none c o e value) ∙ ap (λ p. Err (Unexpected p)) (sym is)
 
 pub ends_none : (c : Cursor) (o : Option Lexeme) (f : Form) → o ≡ None → spelled (Ok o) ≡ scanned (here c) (left c) → Ends c f (Ok f)
 ends_none c o f e value = end_none (here c) (left c) f (after_none c o e value)

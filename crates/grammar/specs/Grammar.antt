@@ -1,5 +1,5 @@
 -- The format of a script's forms, as a machine that is fed a line's tokens.
-use Rattle.std.specs.Prelude.{ℕ, zero, suc, Bool, true, false, cond, ◌&&◌, ◌||◌, List, [], ◌∷◌, ◌++◌, length, Ok, Err, codes, Result, slice_index}
+use Rattle.std.specs.Prelude.{ℕ, zero, suc, Bool, false, cond, ◌&&◌, ◌||◌, List, [], ◌∷◌, ◌++◌, length, Some, None, Ok, Err, codes, Option, Result, slice_index}
 use Rattle.std.specs.Char.{is_ascii_digit}
 use Rattle.std.specs.Str.{bytes_eq}
 use Rattle.protocol.specs.declared.messages.Step.{Step}
@@ -13,7 +13,6 @@ use Rattle.grammar.specs.declared.fault.FormFault.{FormFault}
 use Rattle.grammar.specs.declared.fault.FormFault.TheVariants.{Token, Unexpected}
 use Rattle.form.specs.declared.forms.Form.{Form}
 use Rattle.form.specs.declared.forms.Form.TheVariants.{Line, Announce, Open as Opening, Forge, Deliver, Advance}
-use Rattle.form.specs.declared.forms.Marks.{Marks}
 
 -- where a reader stands: a form is whole, or the next token is tested and the reader goes on by it
 pub data Shape : Type 0 where
@@ -52,16 +51,20 @@ abbrev pub known : List (List ℕ) → List ℕ → Bool
 known [] p = false
 known (w ∷ ws) p = bytes_eq p w || known ws p
 
--- " ", behind which a mark follows, or ")"
-abbrev pub another : (Bool → Shape) → Shape
-another k = next (known (codes ")" ∷ codes " " ∷ [])) (λ p. cond (bytes_eq p (codes ")")) (k false) (k true))
+-- " M", one mark more, or ")"
+abbrev pub mark : (Option ℕ → Shape) → Shape
+mark k = next (known (codes ")" ∷ codes " " ∷ [])) (λ p. cond (bytes_eq p (codes ")")) (k None) (number (λ m. k (Some m))))
+
+abbrev pub by_mark : Shape → (ℕ → Shape) → Option ℕ → Shape
+by_mark last more None = last
+by_mark last more (Some m) = more m
 
 -- " M .. )" with at most n marks, behind those of ms
 abbrev pub marks : ℕ → List ℕ → (List ℕ → Shape) → Shape
 marks zero ms k = word (codes ")") (λ _. k ms)
-marks (suc n) ms k = another (λ more. cond more (number (λ m. marks n (ms ++ m ∷ []) k)) (k ms))
+marks (suc n) ms k = mark (by_mark (k ms) (λ m. marks n (ms ++ m ∷ []) k))
 
-unfoldable pub all_marks : (Marks → Shape) → Shape
+unfoldable pub all_marks : (List ℕ → Shape) → Shape
 all_marks k = marks 16 [] k
 
 abbrev pub line : (Form → Shape) → Shape

@@ -1,1 +1,2 @@
 mod MarksLoop
+mod Words

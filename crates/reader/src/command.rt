@@ -1,14 +1,15 @@
 ghost use Rattle.std.specs.Prelude.{◌≡◌};
-ghost use Rattle.grammar.specs.Grammar.{reading, announce, opening, forge, deliver, advance, line, command, step, subject, item, ballot, another, all_marks};
+ghost use Rattle.grammar.specs.Grammar.{reading, announce, opening, forge, deliver, advance, line, command, step, subject, item, ballot, mark, all_marks};
 ghost use Rattle.grammar.specs.Exact.{Exact, Faults};
 ghost use Rattle.grammar.specs.Reads.{Reads};
 
 use form::{Form, Marks};
 use grammar::{FormFault, expect, finish, pull, read_arg, read_field, read_number};
 use protocol::{Step, Subject};
-use token::{Cursor, same_bytes};
+use token::Cursor;
 
-// Each of these reads the rest of its form, behind the word that names it.
+// Each of these reads the rest of its form, behind the word that names it. One function for the forms of two numbers
+// would be handed a field's name and a way to make the form, and be no shorter.
 fn read_announce(cursor: &mut Cursor<'_>) -> Result<Form, FormFault>
     ensures { Reads cursor.old cursor.new result announce }
 {
@@ -54,16 +55,11 @@ fn read_step(cursor: &mut Cursor<'_>) -> Result<Step, FormFault>
     ensures { Reads cursor.old cursor.new result step }
 {
     let place = cursor.place();
-    let token = pull(cursor)?;
-    let name = token.text();
-    if same_bytes(name, b"initial") {
-        Ok(Step::Initial)
-    } else if same_bytes(name, b"echo") {
-        Ok(Step::Echo)
-    } else if same_bytes(name, b"ready") {
-        Ok(Step::Ready)
-    } else {
-        Err(FormFault::Unexpected(place))
+    match pull(cursor)?.text() {
+        b"initial" => Ok(Step::Initial),
+        b"echo" => Ok(Step::Echo),
+        b"ready" => Ok(Step::Ready),
+        _ => Err(FormFault::Unexpected(place)),
     }
 }
 
@@ -96,14 +92,10 @@ fn read_subject(cursor: &mut Cursor<'_>) -> Result<Subject, FormFault>
     expect(cursor, b" ")?;
     expect(cursor, b"(")?;
     let place = cursor.place();
-    let token = pull(cursor)?;
-    let name = token.text();
-    if same_bytes(name, b"item") {
-        read_item(cursor)
-    } else if same_bytes(name, b"ballot") {
-        read_ballot(cursor)
-    } else {
-        Err(FormFault::Unexpected(place))
+    match pull(cursor)?.text() {
+        b"item" => read_item(cursor),
+        b"ballot" => read_ballot(cursor),
+        _ => Err(FormFault::Unexpected(place)),
     }
 }
 
@@ -128,19 +120,15 @@ fn read_forge(cursor: &mut Cursor<'_>) -> Result<Form, FormFault>
     })
 }
 
-// A space before one mark more, or the bracket behind the last, which leaves none.
-fn another_mark(cursor: &mut Cursor<'_>) -> Result<bool, FormFault>
-    ensures { Reads cursor.old cursor.new result another }
+// A space and one mark more, or the bracket behind the last.
+fn next_mark(cursor: &mut Cursor<'_>) -> Result<Option<u64>, FormFault>
+    ensures { Reads cursor.old cursor.new result mark }
 {
     let place = cursor.place();
-    let token = pull(cursor)?;
-    let bytes = token.text();
-    if same_bytes(bytes, b")") {
-        Ok(false)
-    } else if same_bytes(bytes, b" ") {
-        Ok(true)
-    } else {
-        Err(FormFault::Unexpected(place))
+    match pull(cursor)?.text() {
+        b")" => Ok(None),
+        b" " => Ok(Some(read_number(cursor)?)),
+        _ => Err(FormFault::Unexpected(place)),
     }
 }
 
@@ -149,11 +137,10 @@ fn read_marks(cursor: &mut Cursor<'_>) -> Result<Marks, FormFault>
 {
     let mut marks = Marks::new();
     for _seen in 0..16usize {
-        if !another_mark(cursor)? {
+        let Some(mark) = next_mark(cursor)? else {
             return Ok(marks);
-        }
-        let mark = read_number(cursor)?;
-        marks.push(mark);
+        };
+        marks.push(mark).unwrap();
     }
     expect(cursor, b")")?;
     Ok(marks)
@@ -180,22 +167,14 @@ fn read_command(cursor: &mut Cursor<'_>) -> Result<Form, FormFault>
     ensures { Reads cursor.old cursor.new result command }
 {
     let place = cursor.place();
-    let token = pull(cursor)?;
-    let name = token.text();
-    if same_bytes(name, b"line") {
-        read_line(cursor)
-    } else if same_bytes(name, b"announce") {
-        read_announce(cursor)
-    } else if same_bytes(name, b"open") {
-        read_open(cursor)
-    } else if same_bytes(name, b"forge") {
-        read_forge(cursor)
-    } else if same_bytes(name, b"deliver") {
-        read_deliver(cursor)
-    } else if same_bytes(name, b"advance") {
-        read_advance(cursor)
-    } else {
-        Err(FormFault::Unexpected(place))
+    match pull(cursor)?.text() {
+        b"line" => read_line(cursor),
+        b"announce" => read_announce(cursor),
+        b"open" => read_open(cursor),
+        b"forge" => read_forge(cursor),
+        b"deliver" => read_deliver(cursor),
+        b"advance" => read_advance(cursor),
+        _ => Err(FormFault::Unexpected(place)),
     }
 }
 

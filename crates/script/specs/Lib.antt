@@ -1,1 +1,2 @@
 pub mod Lint
+pub mod Split

@@ -28,18 +28,15 @@ fn put_place(text: Text, layer: &[u8], place: Place) -> Result<Text, AllocError>
     ensures { IfOk result (λ t. shown t ≡ shown text ++ placed layer.now place) }
 {
     let text = text.put(b"(fault (layer ")?.put(layer)?;
-    text.put(b") (line ")?
-        .put_number(place.line)?
-        .put(b") (byte ")?
-        .put_number(place.byte)?
+    text.put_field(b") (line ", place.line)?
+        .put_field(b") (byte ", place.byte)?
         .put(b"))")
 }
 
 fn put_refusal(text: Text, refusal: Refusal) -> Result<Text, AllocError>
     ensures { IfOk result (λ t. shown t ≡ shown text ++ refusal_text refusal) }
 {
-    text.put(b"(refused ")?
-        .put_number(u64::from(refusal.number()))?
+    text.put_field(b"(refused ", u64::from(refusal.number()))?
         .put(b")")
 }
 

@@ -3,9 +3,11 @@
 
 mod fault;
 mod linter;
+mod split;
 
 pub use fault::ScriptFault;
-pub use linter::{check_line, check_size, line_length, lint};
+pub use linter::{check_line, check_size, lint};
+pub use split::{Lines, line_length};
 
 #[cfg(test)]
 mod tests;

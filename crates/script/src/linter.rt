@@ -1,8 +1,9 @@
-ghost use Rattle.std.specs.Prelude.{◌≡◌, ◌≤◌, ◌++◌, length, IfOk};
-ghost use Rattle.script.specs.Lint.{line_length, checked, sized, answer, reported, linted};
+ghost use Rattle.std.specs.Prelude.{◌≡◌, ◌++◌, IfOk};
+ghost use Rattle.script.specs.Lint.{checked, sized, answer, reported, linted};
 ghost use Rattle.text.specs.Shown.{shown};
 
 use crate::fault::ScriptFault;
+use crate::split::Lines;
 use form::Form;
 use protocol::Refusal;
 use reader::read;
@@ -29,18 +30,6 @@ pub fn check_size(input: &[u8]) -> Result<(), ScriptFault>
     Ok(())
 }
 
-/// How many bytes stand before the first line's end.
-pub fn line_length(rest: &[u8]) -> usize
-    ensures value { result ≡ line_length rest.now }
-    ensures within { result ≤ length rest.now }
-{
-    let mut n = 0;
-    while n < rest.len() && rest[n] != b'\n' {
-        n += 1;
-    }
-    n
-}
-
 // The line's form written back, or its fault.
 fn lint_line(text: Text, number: u64, line: &[u8]) -> Result<Text, AllocError>
     ensures { IfOk result (λ t. shown t ≡ shown text ++ answer number line.now) }
@@ -52,16 +41,10 @@ fn lint_line(text: Text, number: u64, line: &[u8]) -> Result<Text, AllocError>
 }
 
 fn lint_lines(mut text: Text, input: &[u8]) -> Result<Text, AllocError>
-    requires { length input.now ≤ 4096 }
     ensures { IfOk result (λ t. shown t ≡ shown text ++ reported 1 input.now) }
 {
-    let mut number = 1;
-    let mut at = 0;
-    while at < input.len() {
-        let end = at + line_length(&input[at..]);
-        text = lint_line(text, number, &input[at..end])?.put(b"\n")?;
-        number += 1;
-        at = end + 1;
+    for (number, line) in Lines::new(input) {
+        text = lint_line(text, number, line)?.put(b"\n")?;
     }
     Ok(text)
 }

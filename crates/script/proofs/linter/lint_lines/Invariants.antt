@@ -1,11 +1,12 @@
-use Rattle.std.proofs.Common.{◌≡◌, ◌+◌, ◌-◌, ◌≤◌, ◌++◌, length, drop}
+use Rattle.std.proofs.Common.{◌≡◌, ◌++◌}
 use Rattle.text.specs.Shown.{shown}
-use Rattle.script.specs.Lint.{reported}
+use Rattle.script.specs.Lint.{answers, reported}
+use Rattle.script.specs.Split.{left, next_number}
 use Rattle.script.proofs.linter.lint_lines.Given as goal
 
 -- what is still to be answered behind the text makes the whole
-abbrev pub invariant-loop-at : goal.invariant-loop-at
-invariant-loop-at l = (l.number ≤ l.at + 1) × (l.at ≤ length l.input + 1) × (shown l.text ++ reported l.number (drop l.at l.input) ≡ shown l.initial.text ++ reported 1 l.input)
-
-abbrev pub decreases-loop-at : goal.decreases-loop-at
-decreases-loop-at l = length l.input + 1 - l.at
+abbrev pub invariant-loop-number : goal.invariant-loop-number
+invariant-loop-number l =
+    (goal.iterator-loop-number).can_next l.number-iterator
+    × (goal.iterator-loop-number).is_finite l.number-iterator
+    × (shown l.text ++ answers (next_number l.number-iterator) (left l.number-iterator) ≡ shown l.initial.text ++ reported 1 l.input)

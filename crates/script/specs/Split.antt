@@ -1,0 +1,15 @@
+-- A script's lines, one by one.
+use Rattle.std.specs.Prelude.{◌≡◌, ℕ, ◌+◌, List, [], ◌∷◌, Option, MatchOption}
+use Rattle.std.specs.Borrow.{Bor}
+use Rattle.script.specs.declared.split.Lines.{Lines}
+use Rattle.script.specs.Lint.{lines}
+
+abbrev pub left : Lines → List (List ℕ)
+left l = lines l.rest.now
+
+abbrev pub next_number : Lines → ℕ
+next_number l = l.number
+
+-- a step gives the first line that is left with its number, or none is left
+abbrev pub GivesLine : Lines → Option (ℕ × Bor (List ℕ)) → Lines → Type 0
+GivesLine s r t = MatchOption r (left s ≡ []) (λ x. (x.0 ≡ next_number s) × ((left s ≡ x.1.now ∷ left t) × (next_number t ≡ next_number s + 1)))

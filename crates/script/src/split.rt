@@ -1,0 +1,63 @@
+ghost use Rattle.std.specs.Prelude.{◌≡◌, ◌+◌, ◌^◌, ◌<◌, ◌≤◌, ◌==◌, length, position};
+ghost use Rattle.script.specs.Lint.{line_length, lines};
+
+/// The lines that are left of a script, and the number of the first of them.
+#[derive(Drop)]
+pub struct Lines<'a> {
+    rest: &'a [u8],
+    number: u64,
+    ghost fits: { number + length rest.now < 2 ^ 64 },
+}
+
+// Where the first line break stands.
+fn line_break(rest: &[u8]) -> Option<usize>
+    ensures { result ≡ position (λ b. b == 10) rest.now }
+{
+    rest.iter().position(|b| *b == b'\n')
+}
+
+/// How many bytes stand before the first line's end.
+pub fn line_length(rest: &[u8]) -> usize
+    ensures value { result ≡ line_length rest.now }
+    ensures within { result ≤ length rest.now }
+{
+    line_break(rest).unwrap_or(rest.len())
+}
+
+impl<'a> Lines<'a> {
+    ghost use Rattle.script.specs.Split.{left, next_number};
+
+    /// All lines of a script, from number 1.
+    pub fn new(input: &'a [u8]) -> Lines<'a>
+        ensures lines { left result ≡ lines input.now }
+        ensures number { next_number result ≡ 1 }
+    {
+        Lines {
+            rest: input,
+            number: 1,
+        }
+    }
+}
+
+impl<'a> Iterator for Lines<'a> {
+    ghost use Rattle.std.specs.Prelude.{length};
+    ghost use Rattle.std.specs.Iterator.{at_most};
+    ghost use Rattle.script.specs.Split.{GivesLine};
+
+    type Item = (u64, &'a [u8]);
+
+    ghost remaining = { λ s. at_most (length s.rest.now) };
+
+    ghost next_gives = { GivesLine };
+
+    fn next(&mut self) -> Option<(u64, &'a [u8])> {
+        if self.rest.is_empty() {
+            return None;
+        }
+        let number = self.number;
+        let (line, behind) = self.rest.split_at(line_length(self.rest));
+        self.rest = behind.get(1..).unwrap_or(behind);
+        self.number += 1;
+        Some((number, line))
+    }
+}
