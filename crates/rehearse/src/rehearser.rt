@@ -1,72 +1,46 @@
-ghost use Rattle.std.specs.Prelude.{◌≡◌, ◌≤◌, ◌++◌, length, IfOk, None as Closed};
+ghost use Rattle.std.specs.Prelude.{◌≡◌, ◌++◌, IfOk};
 ghost use Rattle.text.specs.Shown.{shown};
-ghost use Rattle.memory.specs.Contents.{held};
-ghost use Rattle.desk.specs.Desk.{waiting_in, places_of, desk};
+ghost use Rattle.desk.specs.Desk.{state, places};
 ghost use Rattle.script.specs.Lint.{lines};
-ghost use Rattle.rehearse.specs.Rehearsed.{replies, answers, at_start, rehearsed};
+ghost use Rattle.rehearse.specs.Rehearsed.{reply_text, reply, replies, answers, at_start, rehearsed};
 
 use carriers::Basket;
-use desk::act_on;
-use memory::{BroadcastRecord, CaseRecord, Memory, Slip, Stage};
-use plan::Line;
+use desk::{Desk, Said};
+use memory::{BroadcastRecord, CaseRecord, Memory};
 use protocol::{Message, Step, Subject};
-use script::{check_line, check_size, line_length};
+use script::{Lines, ScriptFault, check_line, check_size};
 use std::alloc::{AllocError, Global};
 use text::Text;
 
-const SILENT: BroadcastRecord = BroadcastRecord {
-    stage: Stage::Silent,
-};
-
-const UNOPENED: CaseRecord = CaseRecord {
-    round: 0,
-    decision: None,
-    slip: Slip::Absent,
-};
-
-// Acts on the line's form and writes what it is answered, or writes the line's fault.
-fn rehearse_line(
-    text: Text,
-    number: u64,
-    bytes: &[u8],
-    line: &mut Option<Line>,
-    memory: &mut Memory,
-    basket: &mut Basket,
-) -> Result<Text, AllocError>
-    ensures text { IfOk result (λ t. shown t ≡ shown text ++ (replies (places_of basket.old) number (desk line.old (held memory.old) (waiting_in basket.old)) bytes.now).text) }
-    ensures after { desk line.new (held memory.new) (waiting_in basket.new) ≡ (replies (places_of basket.old) number (desk line.old (held memory.old) (waiting_in basket.old)) bytes.now).desk }
-    ensures kept { places_of basket.new ≡ places_of basket.old }
+// Acts on the line's form.
+fn reply_to(desk: &mut Desk, number: u64, line: &[u8]) -> Result<Said, ScriptFault>
+    ensures step { reply result (state desk.new) ≡ replies (places desk.old) number (state desk.old) line.now }
+    ensures kept { places desk.new ≡ places desk.old }
 {
-    match check_line(number, bytes) {
-        Ok(form) => act_on(line, memory, basket, form).write_to(text),
+    let form = check_line(number, line)?;
+    Ok(desk.act_on(form)?)
+}
+
+fn put_reply(text: Text, reply: Result<Said, ScriptFault>) -> Result<Text, AllocError>
+    ensures { IfOk result (λ t. shown t ≡ shown text ++ reply_text reply) }
+{
+    match reply {
+        Ok(said) => said.write_to(text),
         Err(fault) => fault.write_to(text),
     }
 }
 
-fn rehearse_lines(
-    mut text: Text,
-    input: &[u8],
-    memory: &mut Memory,
-    basket: &mut Basket,
-) -> Result<Text, AllocError>
-    requires { length input.now ≤ 4096 }
-    ensures { IfOk result (λ t. shown t ≡ shown text ++ answers (places_of basket.old) 1 (desk Closed (held memory.old) (waiting_in basket.old)) (lines input.now)) }
+fn rehearse_lines(mut text: Text, input: &[u8], desk: &mut Desk) -> Result<Text, AllocError>
+    ensures { IfOk result (λ t. shown t ≡ shown text ++ answers (places desk.old) 1 (state desk.old) (lines input.now)) }
 {
-    let mut line = None;
-    let mut number = 1;
-    let mut at = 0;
-    while at < input.len() {
-        let end = at + line_length(&input[at..]);
-        text = rehearse_line(text, number, &input[at..end], &mut line, memory, basket)?.put(b"\n")?;
-        number += 1;
-        at = end + 1;
+    for (number, line) in Lines::new(input) {
+        text = put_reply(text, reply_to(desk, number, line))?.put(b"\n")?;
     }
     Ok(text)
 }
 
 // With a memory for five processes and an empty basket.
 fn rehearse_anew(text: Text, input: &[u8]) -> Result<Text, AllocError>
-    requires { length input.now ≤ 4096 }
     ensures { IfOk result (λ t. shown t ≡ shown text ++ answers 400 1 at_start (lines input.now)) }
 {
     let subject = Subject::Item {
@@ -76,15 +50,15 @@ fn rehearse_anew(text: Text, input: &[u8]) -> Result<Text, AllocError>
     let Ok(message) = Message::new(0, 0, Step::Initial, subject, 0) else {
         unreachable()
     };
-    let mut memory = Memory {
-        broadcasts: &mut [SILENT; 275],
+    let memory = Memory {
+        broadcasts: &mut [BroadcastRecord::SILENT; 275],
         bodies: &mut [None; 2750],
-        cases: &mut [UNOPENED; 5],
+        cases: &mut [CaseRecord::UNOPENED; 5],
         serials: &mut [0; 5],
     };
     let mut places = [message; 400];
-    let mut basket = Basket::new(&mut places);
-    rehearse_lines(text, input, &mut memory, &mut basket)
+    let mut desk = Desk::new(memory, Basket::new(&mut places));
+    rehearse_lines(text, input, &mut desk)
 }
 
 /// Acts on a script line by line: each line gets the answer of its form, or its fault.

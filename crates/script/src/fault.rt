@@ -24,6 +24,14 @@ impl From<FormFault> for ScriptFault {
     }
 }
 
+impl From<Refusal> for ScriptFault {
+    ghost from_gives = { λ e r. r ≡ fault.Refused e };
+
+    fn from(why: Refusal) -> ScriptFault {
+        ScriptFault::Refused(why)
+    }
+}
+
 fn put_place(text: Text, layer: &[u8], place: Place) -> Result<Text, AllocError>
     ensures { IfOk result (λ t. shown t ≡ shown text ++ placed layer.now place) }
 {

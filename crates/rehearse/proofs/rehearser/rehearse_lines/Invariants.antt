@@ -1,18 +1,15 @@
-use Rattle.std.proofs.Common.{◌≡◌, ◌+◌, ◌-◌, ◌≤◌, ◌++◌, length, drop}
+use Rattle.std.proofs.Common.{◌≡◌, ◌++◌}
 use Rattle.text.specs.Shown.{shown}
-use Rattle.memory.specs.Contents.{held}
+use Rattle.desk.specs.Desk.{state, places}
 use Rattle.script.specs.Lint.{lines}
-use Rattle.desk.specs.Desk.{waiting_in, places_of, desk}
+use Rattle.script.specs.Split.{left, next_number}
 use Rattle.rehearse.specs.Rehearsed.{answers}
 use Rattle.rehearse.proofs.rehearser.rehearse_lines.Given as goal
 
 -- what is still to be answered behind the text makes the whole
-abbrev pub invariant-loop-at : goal.invariant-loop-at
-invariant-loop-at l =
-    (l.number ≤ l.at + 1)
-    × (l.at ≤ length l.input + 1)
-    × (places_of l.basket ≡ places_of l.initial.basket)
-    × (shown l.text ++ answers (places_of l.initial.basket) l.number (desk l.line (held l.memory) (waiting_in l.basket)) (lines (drop l.at l.input)) ≡ shown l.initial.text ++ answers (places_of l.initial.basket) 1 (desk l.initial.line (held l.initial.memory) (waiting_in l.initial.basket)) (lines l.input))
-
-abbrev pub decreases-loop-at : goal.decreases-loop-at
-decreases-loop-at l = length l.input + 1 - l.at
+abbrev pub invariant-loop-number : goal.invariant-loop-number
+invariant-loop-number l =
+    (goal.iterator-loop-number).can_next l.number-iterator
+    × (goal.iterator-loop-number).is_finite l.number-iterator
+    × (places l.desk ≡ places l.initial.desk)
+    × (shown l.text ++ answers (places l.initial.desk) (next_number l.number-iterator) (state l.desk) (left l.number-iterator) ≡ shown l.initial.text ++ answers (places l.initial.desk) 1 (state l.initial.desk) (lines l.input))
