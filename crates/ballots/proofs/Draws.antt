@@ -197,18 +197,16 @@ module _ (n t : ℕ) where
 
   -- and what a draw allows is among what is allowed
   module _ (c : ByBallot ℕ) (b : ℕ) where
+    drawn_from : {q : Kind} (d : Draw n t q c b) → (d.of.keep ≤ c.keep) × (d.of.release ≤ c.release) × (d.of.propose_keep ≤ c.propose_keep) × (d.of.propose_release ≤ c.propose_release) × (d.of.«open» ≤ c.«open») × (total d.of ≡ n - t)
+    drawn_from d = (d.within Keep, d.within Release, d.within ProposeKeep, d.within ProposeRelease, d.within Open, d.size)
+
     taken_first : OfKind First c → Draw n t First c b → Taken (after n t First c) b
     unfolding after
     taken_first none d = ⊎_elim behind even (cases_lt d.of.keep d.of.release)
       where
         behind : d.of.keep < d.of.release → Taken (after n t First c) b
         behind l =
-            let wk = d.within Keep in
-            let wr = d.within Release in
-            let pk = d.within ProposeKeep in
-            let pr = d.within ProposeRelease in
-            let o = d.within Open in
-            let s = d.size in
+            let w = drawn_from d in
             record {
               is = Release;
               number = d.allows ∙ ap (λ v. ballot_number (vote v)) (release_ahead d.of l);
@@ -217,12 +215,7 @@ module _ (n t : ℕ) where
 
         even : d.of.release ≤ d.of.keep → Taken (after n t First c) b
         even l =
-            let wk = d.within Keep in
-            let wr = d.within Release in
-            let pk = d.within ProposeKeep in
-            let pr = d.within ProposeRelease in
-            let o = d.within Open in
-            let s = d.size in
+            let w = drawn_from d in
             record {
               is = Keep;
               number = d.allows ∙ ap (λ v. ballot_number (vote v)) (keep_ahead d.of l);
@@ -235,24 +228,14 @@ module _ (n t : ℕ) where
       where
         most : (v : Side) → n < 2 * amount d.of (vote v) → b ≡ ballot_number (proposal v) → Taken (after n t Second c) b
         most side.Keep l e =
-            let wk = d.within Keep in
-            let wr = d.within Release in
-            let pk = d.within ProposeKeep in
-            let pr = d.within ProposeRelease in
-            let o = d.within Open in
-            let s = d.size in
+            let w = drawn_from d in
             record {
               is = ProposeKeep;
               number = e;
               allowed = le_lt (n - t) (c.keep + c.release) n (2 * min c.keep (n - t)) (omega arith) (omega arith);
             }
         most side.Release l e =
-            let wk = d.within Keep in
-            let wr = d.within Release in
-            let pk = d.within ProposeKeep in
-            let pr = d.within ProposeRelease in
-            let o = d.within Open in
-            let s = d.size in
+            let w = drawn_from d in
             record {
               is = ProposeRelease;
               number = e;
@@ -261,12 +244,7 @@ module _ (n t : ℕ) where
 
         few : (((v : Side) → 2 * amount d.of (vote v) ≤ n) × (b ≡ ballot_number Open)) → Taken (after n t Second c) b
         few f =
-            let wk = d.within Keep in
-            let wr = d.within Release in
-            let pk = d.within ProposeKeep in
-            let pr = d.within ProposeRelease in
-            let o = d.within Open in
-            let s = d.size in
+            let w = drawn_from d in
             let k = f.0 side.Keep in
             let r = f.0 side.Release in
             record { is = Open; number = f.1; allowed = le-leb (n - t) (min c.keep (n / 2) + min c.release (n / 2)) (omega arith) }
@@ -277,24 +255,14 @@ module _ (n t : ℕ) where
       where
         forced : (v : Side) → t < amount d.of (proposal v) → b ≡ ballot_number (vote v) → Taken (after n t Third c) b
         forced side.Keep l e =
-            let wk = d.within Keep in
-            let wr = d.within Release in
-            let pk = d.within ProposeKeep in
-            let pr = d.within ProposeRelease in
-            let o = d.within Open in
-            let s = d.size in
+            let w = drawn_from d in
             record {
               is = Keep;
               number = e;
               allowed = or_left _ _ (le_lt (n - t) (c.propose_keep + c.propose_release + c.«open») t (min c.propose_keep (n - t)) (omega arith) (omega arith));
             }
         forced side.Release l e =
-            let wk = d.within Keep in
-            let wr = d.within Release in
-            let pk = d.within ProposeKeep in
-            let pr = d.within ProposeRelease in
-            let o = d.within Open in
-            let s = d.size in
+            let w = drawn_from d in
             record {
               is = Release;
               number = e;
@@ -303,12 +271,7 @@ module _ (n t : ℕ) where
 
         few : ((v : Side) → amount d.of (proposal v) ≤ t) → leb (n - t) (min c.propose_keep t + min c.propose_release t + c.«open») ≡ true
         few f =
-            let wk = d.within Keep in
-            let wr = d.within Release in
-            let pk = d.within ProposeKeep in
-            let pr = d.within ProposeRelease in
-            let o = d.within Open in
-            let s = d.size in
+            let w = drawn_from d in
             let k = f side.Keep in
             let r = f side.Release in
             le-leb (n - t) (min c.propose_keep t + min c.propose_release t + c.«open») (omega arith)
