@@ -1,5 +1,6 @@
 -- What some of the ballots of a round can allow, by how many there are of each. Assumes nothing.
 use Rattle.std.proofs.Common.{◌≡◌, ℕ, ◌+◌, ◌-◌, ◌*◌, ◌/◌, ◌<◌, ◌≤◌, min, Bool, true, false, cond, ◌&&◌, ltb, leb, sym, refl, ap, ◌∙◌, inl, inr, ⊎_elim, arith}
+use Rattle.std.proofs.lemmas.Bool.Decides.{nat_tests}
 use Rattle.std.proofs.lemmas.Bool.{both_ways, and_parts, and_from, or_cases, or_left, or_right, leb-true, ltb-true, le-leb, lt-ltb, le-ltb, cases_lt}
 use Rattle.protocol.specs.Numbers.{ballot_number, vote, proposal}
 use Rattle.protocol.specs.declared.votes.Side.{Side}
@@ -76,10 +77,9 @@ module _ (n t : ℕ) where
   drawn_first : (c : ByBallot ℕ) (b : Ballot) → takes (after n t First c) b ≡ true → Draw n t First c (ballot_number b)
   unfolding after some_votes
   drawn_first c Keep e =
-      let a = and_parts (leb (n - t) (c.keep + c.release)) _ e in
-      let many = leb-true _ _ a.0 in
-      let half = leb-true _ _ a.1 in
       let k = min c.keep (n - t) in
+      let many : n - t ≤ c.keep + c.release = grind (arith, nat_tests) in
+      let half : n - t ≤ 2 * k = grind (arith, nat_tests) in
       let x = some_votes k (n - t - k) in
       record {
         of = x;
@@ -88,10 +88,9 @@ module _ (n t : ℕ) where
         allows = sym (ap (λ v. ballot_number (vote v)) (keep_ahead x (omega arith)));
       }
   drawn_first c Release e =
-      let a = and_parts (leb (n - t) (c.keep + c.release)) _ e in
-      let many = leb-true _ _ a.0 in
-      let half = ltb-true _ _ a.1 in
       let r = min c.release (n - t) in
+      let many : n - t ≤ c.keep + c.release = grind (arith, nat_tests) in
+      let half : n - t < 2 * r = grind (arith, nat_tests) in
       let x = some_votes (n - t - r) r in
       record {
         of = x;
@@ -108,10 +107,9 @@ module _ (n t : ℕ) where
   drawn_second c Keep e = never e
   drawn_second c Release e = never e
   drawn_second c ProposeKeep e =
-      let a = and_parts (leb (n - t) (c.keep + c.release)) _ e in
-      let many = leb-true _ _ a.0 in
-      let most = ltb-true _ _ a.1 in
       let k = min c.keep (n - t) in
+      let many : n - t ≤ c.keep + c.release = grind (arith, nat_tests) in
+      let most : n < 2 * k = grind (arith, nat_tests) in
       record {
         of = some_votes k (n - t - k);
         within = votes_within c k (n - t - k) (omega arith) (omega arith);
@@ -119,10 +117,9 @@ module _ (n t : ℕ) where
         allows = inl (side.Keep, omega arith, refl);
       }
   drawn_second c ProposeRelease e =
-      let a = and_parts (leb (n - t) (c.keep + c.release)) _ e in
-      let many = leb-true _ _ a.0 in
-      let most = ltb-true _ _ a.1 in
       let r = min c.release (n - t) in
+      let many : n - t ≤ c.keep + c.release = grind (arith, nat_tests) in
+      let most : n < 2 * r = grind (arith, nat_tests) in
       record {
         of = some_votes (n - t - r) r;
         within = votes_within c (n - t - r) r (omega arith) (omega arith);
