@@ -48,9 +48,6 @@ proposals_within c k r o x y z ProposeKeep = x
 proposals_within c k r o x y z ProposeRelease = y
 proposals_within c k r o x y z Open = z
 
-never : {X : Type 0} → false ≡ true → X
-never e = absurd (both_ways false refl e)
-
 both_sides : (P : Side → Type 0) → P side.Keep → P side.Release → (v : Side) → P v
 both_sides P a b side.Keep = a
 both_sides P a b side.Release = b
@@ -66,12 +63,6 @@ pub record Taken (a : ByBallot Bool) (b : ℕ) : Type 0 where
   pub is : Ballot
   pub number : b ≡ ballot_number is
   pub allowed : takes a is ≡ true
-
-le_le : (a b c d : ℕ) → a ≤ b → c ≤ d → (leb a b && leb c d) ≡ true
-le_le a b c d x y = and_from _ _ (le-leb a b x) (le-leb c d y)
-
-le_lt : (a b c d : ℕ) → a ≤ b → c < d → (leb a b && ltb c d) ≡ true
-le_lt a b c d x y = and_from _ _ (le-leb a b x) (lt-ltb c d y)
 
 module _ (n t : ℕ) where
   drawn_first : (c : ByBallot ℕ) (b : Ballot) → takes (after n t First c) b ≡ true → Draw n t First c (ballot_number b)
@@ -98,14 +89,14 @@ module _ (n t : ℕ) where
         size = omega arith;
         allows = sym (ap (λ v. ballot_number (vote v)) (release_ahead x (omega arith)));
       }
-  drawn_first c ProposeKeep e = never e
-  drawn_first c ProposeRelease e = never e
-  drawn_first c Open e = never e
+  drawn_first c ProposeKeep e = absurd cc
+  drawn_first c ProposeRelease e = absurd cc
+  drawn_first c Open e = absurd cc
 
   drawn_second : (c : ByBallot ℕ) (b : Ballot) → takes (after n t Second c) b ≡ true → Draw n t Second c (ballot_number b)
   unfolding after some_votes
-  drawn_second c Keep e = never e
-  drawn_second c Release e = never e
+  drawn_second c Keep e = absurd cc
+  drawn_second c Release e = absurd cc
   drawn_second c ProposeKeep e =
       let k = min c.keep (n - t) in
       let many : n - t ≤ c.keep + c.release = grind (arith, nat_tests) in
@@ -183,9 +174,9 @@ module _ (n t : ℕ) where
             size = omega arith;
             allows = inl (side.Release, omega arith, refl);
           }
-  drawn_third c ProposeKeep e = never e
-  drawn_third c ProposeRelease e = never e
-  drawn_third c Open e = never e
+  drawn_third c ProposeKeep e = absurd cc
+  drawn_third c ProposeRelease e = absurd cc
+  drawn_third c Open e = absurd cc
 
   pub drawn : (q : Kind) (c : ByBallot ℕ) (b : Ballot) → takes (after n t q c) b ≡ true → Draw n t q c (ballot_number b)
   drawn First = drawn_first
@@ -207,7 +198,7 @@ module _ (n t : ℕ) where
             record {
               is = Release;
               number = d.allows ∙ ap (λ v. ballot_number (vote v)) (release_ahead d.of l);
-              allowed = le_lt (n - t) (c.keep + c.release) (n - t) (2 * min c.release (n - t)) (omega arith) (omega arith);
+              allowed = grind (arith, nat_tests);
             }
 
         even : d.of.release ≤ d.of.keep → Taken (after n t First c) b
@@ -216,7 +207,7 @@ module _ (n t : ℕ) where
             record {
               is = Keep;
               number = d.allows ∙ ap (λ v. ballot_number (vote v)) (keep_ahead d.of l);
-              allowed = le_le (n - t) (c.keep + c.release) (n - t) (2 * min c.keep (n - t)) (omega arith) (omega arith);
+              allowed = grind (arith, nat_tests);
             }
 
     taken_second : OfKind Second c → Draw n t Second c b → Taken (after n t Second c) b
@@ -229,14 +220,14 @@ module _ (n t : ℕ) where
             record {
               is = ProposeKeep;
               number = e;
-              allowed = le_lt (n - t) (c.keep + c.release) n (2 * min c.keep (n - t)) (omega arith) (omega arith);
+              allowed = grind (arith, nat_tests);
             }
         most side.Release l e =
             let w = drawn_from d in
             record {
               is = ProposeRelease;
               number = e;
-              allowed = le_lt (n - t) (c.keep + c.release) n (2 * min c.release (n - t)) (omega arith) (omega arith);
+              allowed = grind (arith, nat_tests);
             }
 
         few : (((v : Side) → 2 * amount d.of (vote v) ≤ n) × (b ≡ ballot_number Open)) → Taken (after n t Second c) b
@@ -244,7 +235,7 @@ module _ (n t : ℕ) where
             let w = drawn_from d in
             let k = f.0 side.Keep in
             let r = f.0 side.Release in
-            record { is = Open; number = f.1; allowed = le-leb (n - t) (min c.keep (n / 2) + min c.release (n / 2)) (omega arith) }
+            record { is = Open; number = f.1; allowed = grind (arith, nat_tests) }
 
     taken_third : OfKind Third c → Draw n t Third c b → Taken (after n t Third c) b
     unfolding after
@@ -256,14 +247,14 @@ module _ (n t : ℕ) where
             record {
               is = Keep;
               number = e;
-              allowed = or_left _ _ (le_lt (n - t) (c.propose_keep + c.propose_release + c.«open») t (min c.propose_keep (n - t)) (omega arith) (omega arith));
+              allowed = grind (arith, nat_tests);
             }
         forced side.Release l e =
             let w = drawn_from d in
             record {
               is = Release;
               number = e;
-              allowed = or_left _ _ (le_lt (n - t) (c.propose_keep + c.propose_release + c.«open») t (min c.propose_release (n - t)) (omega arith) (omega arith));
+              allowed = grind (arith, nat_tests);
             }
 
         few : ((v : Side) → amount d.of (proposal v) ≤ t) → leb (n - t) (min c.propose_keep t + min c.propose_release t + c.«open») ≡ true
