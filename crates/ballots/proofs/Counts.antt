@@ -20,7 +20,7 @@ pub same_ballot : (b c : Ballot) → ballot_number b ≡ ballot_number c → b �
 same_ballot b c e = let x = ballot_of_lem b in let y = ballot_of_lem c in let z = ap ballot_of e in cc
 
 pub says_some : (b : Ballot) (o : Option Ballot) → says b o ≡ true → o ≡ Some b
-says_some b None e = absurd (both_ways false refl e)
+says_some b None e = absurd cc
 says_some b (Some c) e = ap Some (same_ballot c b (eqb-true _ _ e))
 
 pub below_zero : (n : ℕ) (p : ℕ → Bool) → ((k : ℕ) → k < n → p k ≡ false) → below n p ≡ 0

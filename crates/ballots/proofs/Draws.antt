@@ -147,10 +147,10 @@ module _ (n t : ℕ) where
   drawn_third c Keep e = ⊎_elim forced (λ x. tossed_third c side.Keep (leb-true _ _ x)) (or_cases _ _ e)
     where
       forced : (leb (n - t) (c.propose_keep + c.propose_release + c.«open») && ltb t (min c.propose_keep (n - t))) ≡ true → Draw n t Third c 0
-      forced f = let a = and_parts (leb (n - t) (c.propose_keep + c.propose_release + c.«open»)) _ f in
-          let many = leb-true _ _ a.0 in
-          let most = ltb-true _ _ a.1 in
+      forced f =
           let k = min c.propose_keep (n - t) in
+          let many : n - t ≤ c.propose_keep + c.propose_release + c.«open» = grind (arith, nat_tests) in
+          let most : t < k = grind (arith, nat_tests) in
           let r = min c.propose_release (n - t - k) in
           let o = n - t - k - r in
           record {
@@ -162,10 +162,10 @@ module _ (n t : ℕ) where
   drawn_third c Release e = ⊎_elim forced (λ x. tossed_third c side.Release (leb-true _ _ x)) (or_cases _ _ e)
     where
       forced : (leb (n - t) (c.propose_keep + c.propose_release + c.«open») && ltb t (min c.propose_release (n - t))) ≡ true → Draw n t Third c 1
-      forced f = let a = and_parts (leb (n - t) (c.propose_keep + c.propose_release + c.«open»)) _ f in
-          let many = leb-true _ _ a.0 in
-          let most = ltb-true _ _ a.1 in
+      forced f =
           let r = min c.propose_release (n - t) in
+          let many : n - t ≤ c.propose_keep + c.propose_release + c.«open» = grind (arith, nat_tests) in
+          let most : t < r = grind (arith, nat_tests) in
           let k = min c.propose_keep (n - t - r) in
           let o = n - t - k - r in
           record {

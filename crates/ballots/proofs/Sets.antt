@@ -54,7 +54,7 @@ first_says x g k (Some c) b = go (eqb (ballot_number c) (ballot_number b)) refl
 
 first_some : (x : ByBallot ℕ) (g : ℕ → Option Ballot) (k : ℕ) (o : Option Ballot) → first_by x g k o ≡ true → (b : Ballot) × (o ≡ Some b)
 unfolding first_by
-first_some x g k None e = absurd (both_ways false refl e)
+first_some x g k None e = absurd cc
 first_some x g k (Some b) e = (b, refl)
 
 some_only : (s : Bool) (o : Option Ballot) → (s ≡ true → (b : Ballot) × (o ≡ Some b)) → is_some (cond s o None) ≡ s

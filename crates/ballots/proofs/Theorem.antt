@@ -23,9 +23,9 @@ use Rattle.ballots.proofs.Sifting.{sifted_some, some_sifted, not_sifted}
 begins : (b : Ballot) → takes beginning b ≡ true → (v : Side) × (ballot_number b ≡ ballot_number (vote v))
 begins Keep e = (side.Keep, refl)
 begins Release e = (side.Release, refl)
-begins ProposeKeep e = absurd (both_ways false refl e)
-begins ProposeRelease e = absurd (both_ways false refl e)
-begins Open e = absurd (both_ways false refl e)
+begins ProposeKeep e = absurd cc
+begins ProposeRelease e = absurd cc
+begins Open e = absurd cc
 
 vote_begins : (v : Side) → takes beginning (vote v) ≡ true
 vote_begins side.Keep = refl
