@@ -1,6 +1,6 @@
 -- Counting the ballots of a row. Assumes nothing.
 use Rattle.std.proofs.Common.{◌≡◌, ℕ, zero, suc, ◌+◌, ◌<◌, ◌≤◌, Bool, true, false, cond, ◌&&◌, is_some, Some, None, Option, refl, ap, ⊎_elim, arith}
-use Rattle.std.proofs.lemmas.Bool.{both_ways, eqb-true, cases_lt}
+use Rattle.std.proofs.lemmas.Bool.{eqb-true, cases_lt}
 use Rattle.protocol.specs.Counting.{below}
 use Rattle.protocol.proofs.Counting.{below_suc}
 use Rattle.protocol.specs.declared.votes.Ballot.{Ballot}

@@ -1,7 +1,7 @@
 -- Rows of the ballots of a memory. Assumes nothing.
-use Rattle.std.proofs.Common.{◌≡◌, ℕ, zero, suc, ◌+◌, ◌-◌, ◌*◌, ◌<◌, ◌≤◌, Bool, true, ltb, leb, List, None, Option, sym, ap, ◌∙◌, subst, arith}
+use Rattle.std.proofs.Common.{◌≡◌, ℕ, zero, suc, ◌+◌, ◌-◌, ◌*◌, ◌<◌, ◌≤◌, Bool, true, ltb, List, None, Option, sym, ap, ◌∙◌, subst, arith}
 use Rattle.std.proofs.lemmas.Bool.Decides.{nat_tests}
-use Rattle.std.proofs.lemmas.Bool.{cond-true, cond-false, le-ltb, ltb-true, leb-true, and_parts, and_left}
+use Rattle.std.proofs.lemmas.Bool.{cond-true, cond-false, le-ltb, and_left}
 use Rattle.protocol.specs.declared.messages.Subject.TheVariants as subject
 use Rattle.protocol.specs.declared.votes.Ballot.{Ballot}
 use Rattle.plan.specs.declared.plans.Plan.{Plan}

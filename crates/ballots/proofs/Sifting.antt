@@ -1,5 +1,5 @@
 -- What is left of a body by the test of what is allowed. Assumes nothing.
-use Rattle.std.proofs.Common.{◌≡◌, ℕ, Bool, true, false, cond, eqb, Some, None, Option, sym, refl, ap, ◌∙◌, arith}
+use Rattle.std.proofs.Common.{◌≡◌, ℕ, Bool, true, false, cond, eqb, Some, None, Option, sym, refl, ap, ◌∙◌}
 use Rattle.std.proofs.lemmas.Bool.{both_ways, cond-true, eqb-true}
 use Rattle.protocol.specs.Numbers.{ballot_number, ballot_of}
 use Rattle.protocol.specs.declared.votes.Ballot.{Ballot}
