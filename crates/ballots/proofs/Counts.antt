@@ -1,6 +1,6 @@
 -- Counting the ballots of a row. Assumes nothing.
 use Rattle.std.proofs.Common.{◌≡◌, ℕ, zero, suc, ◌+◌, ◌<◌, ◌≤◌, Bool, true, false, cond, ◌&&◌, is_some, Some, None, Option, refl, ap, ⊎_elim, arith}
-use Rattle.std.proofs.lemmas.Bool.{both_ways, eqb-true, cases_lt}
+use Rattle.std.proofs.lemmas.Bool.{eqb-true, cases_lt}
 use Rattle.protocol.specs.Counting.{below}
 use Rattle.protocol.proofs.Counting.{below_suc}
 use Rattle.protocol.specs.declared.votes.Ballot.{Ballot}
@@ -20,7 +20,7 @@ pub same_ballot : (b c : Ballot) → ballot_number b ≡ ballot_number c → b �
 same_ballot b c e = let x = ballot_of_lem b in let y = ballot_of_lem c in let z = ap ballot_of e in cc
 
 pub says_some : (b : Ballot) (o : Option Ballot) → says b o ≡ true → o ≡ Some b
-says_some b None e = absurd (both_ways false refl e)
+says_some b None e = absurd cc
 says_some b (Some c) e = ap Some (same_ballot c b (eqb-true _ _ e))
 
 pub below_zero : (n : ℕ) (p : ℕ → Bool) → ((k : ℕ) → k < n → p k ≡ false) → below n p ≡ 0

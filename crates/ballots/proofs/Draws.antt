@@ -1,6 +1,7 @@
 -- What some of the ballots of a round can allow, by how many there are of each. Assumes nothing.
-use Rattle.std.proofs.Common.{◌≡◌, ℕ, ◌+◌, ◌-◌, ◌*◌, ◌/◌, ◌<◌, ◌≤◌, min, Bool, true, false, cond, ◌&&◌, ltb, leb, sym, refl, ap, ◌∙◌, inl, inr, ⊎_elim, arith}
-use Rattle.std.proofs.lemmas.Bool.{both_ways, and_parts, and_from, or_cases, or_left, or_right, leb-true, ltb-true, le-leb, lt-ltb, le-ltb, cases_lt}
+use Rattle.std.proofs.Common.{◌≡◌, ℕ, ◌+◌, ◌-◌, ◌*◌, ◌/◌, ◌<◌, ◌≤◌, min, Bool, true, cond, ◌&&◌, ltb, leb, sym, refl, ap, ◌∙◌, inl, inr, ⊎_elim, arith}
+use Rattle.std.proofs.lemmas.Bool.Decides.{nat_tests}
+use Rattle.std.proofs.lemmas.Bool.{or_cases, or_right, leb-true, le-leb, lt-ltb, le-ltb, cases_lt}
 use Rattle.protocol.specs.Numbers.{ballot_number, vote, proposal}
 use Rattle.protocol.specs.declared.votes.Side.{Side}
 use Rattle.protocol.specs.declared.votes.Side.TheVariants as side
@@ -47,9 +48,6 @@ proposals_within c k r o x y z ProposeKeep = x
 proposals_within c k r o x y z ProposeRelease = y
 proposals_within c k r o x y z Open = z
 
-never : {X : Type 0} → false ≡ true → X
-never e = absurd (both_ways false refl e)
-
 both_sides : (P : Side → Type 0) → P side.Keep → P side.Release → (v : Side) → P v
 both_sides P a b side.Keep = a
 both_sides P a b side.Release = b
@@ -66,20 +64,13 @@ pub record Taken (a : ByBallot Bool) (b : ℕ) : Type 0 where
   pub number : b ≡ ballot_number is
   pub allowed : takes a is ≡ true
 
-le_le : (a b c d : ℕ) → a ≤ b → c ≤ d → (leb a b && leb c d) ≡ true
-le_le a b c d x y = and_from _ _ (le-leb a b x) (le-leb c d y)
-
-le_lt : (a b c d : ℕ) → a ≤ b → c < d → (leb a b && ltb c d) ≡ true
-le_lt a b c d x y = and_from _ _ (le-leb a b x) (lt-ltb c d y)
-
 module _ (n t : ℕ) where
   drawn_first : (c : ByBallot ℕ) (b : Ballot) → takes (after n t First c) b ≡ true → Draw n t First c (ballot_number b)
   unfolding after some_votes
   drawn_first c Keep e =
-      let a = and_parts (leb (n - t) (c.keep + c.release)) _ e in
-      let many = leb-true _ _ a.0 in
-      let half = leb-true _ _ a.1 in
       let k = min c.keep (n - t) in
+      let many : n - t ≤ c.keep + c.release = grind (arith, nat_tests) in
+      let half : n - t ≤ 2 * k = grind (arith, nat_tests) in
       let x = some_votes k (n - t - k) in
       record {
         of = x;
@@ -88,10 +79,9 @@ module _ (n t : ℕ) where
         allows = sym (ap (λ v. ballot_number (vote v)) (keep_ahead x (omega arith)));
       }
   drawn_first c Release e =
-      let a = and_parts (leb (n - t) (c.keep + c.release)) _ e in
-      let many = leb-true _ _ a.0 in
-      let half = ltb-true _ _ a.1 in
       let r = min c.release (n - t) in
+      let many : n - t ≤ c.keep + c.release = grind (arith, nat_tests) in
+      let half : n - t < 2 * r = grind (arith, nat_tests) in
       let x = some_votes (n - t - r) r in
       record {
         of = x;
@@ -99,19 +89,18 @@ module _ (n t : ℕ) where
         size = omega arith;
         allows = sym (ap (λ v. ballot_number (vote v)) (release_ahead x (omega arith)));
       }
-  drawn_first c ProposeKeep e = never e
-  drawn_first c ProposeRelease e = never e
-  drawn_first c Open e = never e
+  drawn_first c ProposeKeep e = absurd cc
+  drawn_first c ProposeRelease e = absurd cc
+  drawn_first c Open e = absurd cc
 
   drawn_second : (c : ByBallot ℕ) (b : Ballot) → takes (after n t Second c) b ≡ true → Draw n t Second c (ballot_number b)
   unfolding after some_votes
-  drawn_second c Keep e = never e
-  drawn_second c Release e = never e
+  drawn_second c Keep e = absurd cc
+  drawn_second c Release e = absurd cc
   drawn_second c ProposeKeep e =
-      let a = and_parts (leb (n - t) (c.keep + c.release)) _ e in
-      let many = leb-true _ _ a.0 in
-      let most = ltb-true _ _ a.1 in
       let k = min c.keep (n - t) in
+      let many : n - t ≤ c.keep + c.release = grind (arith, nat_tests) in
+      let most : n < 2 * k = grind (arith, nat_tests) in
       record {
         of = some_votes k (n - t - k);
         within = votes_within c k (n - t - k) (omega arith) (omega arith);
@@ -119,10 +108,9 @@ module _ (n t : ℕ) where
         allows = inl (side.Keep, omega arith, refl);
       }
   drawn_second c ProposeRelease e =
-      let a = and_parts (leb (n - t) (c.keep + c.release)) _ e in
-      let many = leb-true _ _ a.0 in
-      let most = ltb-true _ _ a.1 in
       let r = min c.release (n - t) in
+      let many : n - t ≤ c.keep + c.release = grind (arith, nat_tests) in
+      let most : n < 2 * r = grind (arith, nat_tests) in
       record {
         of = some_votes (n - t - r) r;
         within = votes_within c (n - t - r) r (omega arith) (omega arith);
@@ -159,10 +147,10 @@ module _ (n t : ℕ) where
   drawn_third c Keep e = ⊎_elim forced (λ x. tossed_third c side.Keep (leb-true _ _ x)) (or_cases _ _ e)
     where
       forced : (leb (n - t) (c.propose_keep + c.propose_release + c.«open») && ltb t (min c.propose_keep (n - t))) ≡ true → Draw n t Third c 0
-      forced f = let a = and_parts (leb (n - t) (c.propose_keep + c.propose_release + c.«open»)) _ f in
-          let many = leb-true _ _ a.0 in
-          let most = ltb-true _ _ a.1 in
+      forced f =
           let k = min c.propose_keep (n - t) in
+          let many : n - t ≤ c.propose_keep + c.propose_release + c.«open» = grind (arith, nat_tests) in
+          let most : t < k = grind (arith, nat_tests) in
           let r = min c.propose_release (n - t - k) in
           let o = n - t - k - r in
           record {
@@ -174,10 +162,10 @@ module _ (n t : ℕ) where
   drawn_third c Release e = ⊎_elim forced (λ x. tossed_third c side.Release (leb-true _ _ x)) (or_cases _ _ e)
     where
       forced : (leb (n - t) (c.propose_keep + c.propose_release + c.«open») && ltb t (min c.propose_release (n - t))) ≡ true → Draw n t Third c 1
-      forced f = let a = and_parts (leb (n - t) (c.propose_keep + c.propose_release + c.«open»)) _ f in
-          let many = leb-true _ _ a.0 in
-          let most = ltb-true _ _ a.1 in
+      forced f =
           let r = min c.propose_release (n - t) in
+          let many : n - t ≤ c.propose_keep + c.propose_release + c.«open» = grind (arith, nat_tests) in
+          let most : t < r = grind (arith, nat_tests) in
           let k = min c.propose_keep (n - t - r) in
           let o = n - t - k - r in
           record {
@@ -186,9 +174,9 @@ module _ (n t : ℕ) where
             size = omega arith;
             allows = inl (side.Release, omega arith, refl);
           }
-  drawn_third c ProposeKeep e = never e
-  drawn_third c ProposeRelease e = never e
-  drawn_third c Open e = never e
+  drawn_third c ProposeKeep e = absurd cc
+  drawn_third c ProposeRelease e = absurd cc
+  drawn_third c Open e = absurd cc
 
   pub drawn : (q : Kind) (c : ByBallot ℕ) (b : Ballot) → takes (after n t q c) b ≡ true → Draw n t q c (ballot_number b)
   drawn First = drawn_first
@@ -197,36 +185,29 @@ module _ (n t : ℕ) where
 
   -- and what a draw allows is among what is allowed
   module _ (c : ByBallot ℕ) (b : ℕ) where
+    drawn_from : {q : Kind} (d : Draw n t q c b) → (d.of.keep ≤ c.keep) × (d.of.release ≤ c.release) × (d.of.propose_keep ≤ c.propose_keep) × (d.of.propose_release ≤ c.propose_release) × (d.of.«open» ≤ c.«open») × (total d.of ≡ n - t)
+    drawn_from d = (d.within Keep, d.within Release, d.within ProposeKeep, d.within ProposeRelease, d.within Open, d.size)
+
     taken_first : OfKind First c → Draw n t First c b → Taken (after n t First c) b
     unfolding after
     taken_first none d = ⊎_elim behind even (cases_lt d.of.keep d.of.release)
       where
         behind : d.of.keep < d.of.release → Taken (after n t First c) b
         behind l =
-            let wk = d.within Keep in
-            let wr = d.within Release in
-            let pk = d.within ProposeKeep in
-            let pr = d.within ProposeRelease in
-            let o = d.within Open in
-            let s = d.size in
+            let w = drawn_from d in
             record {
               is = Release;
               number = d.allows ∙ ap (λ v. ballot_number (vote v)) (release_ahead d.of l);
-              allowed = le_lt (n - t) (c.keep + c.release) (n - t) (2 * min c.release (n - t)) (omega arith) (omega arith);
+              allowed = grind (arith, nat_tests);
             }
 
         even : d.of.release ≤ d.of.keep → Taken (after n t First c) b
         even l =
-            let wk = d.within Keep in
-            let wr = d.within Release in
-            let pk = d.within ProposeKeep in
-            let pr = d.within ProposeRelease in
-            let o = d.within Open in
-            let s = d.size in
+            let w = drawn_from d in
             record {
               is = Keep;
               number = d.allows ∙ ap (λ v. ballot_number (vote v)) (keep_ahead d.of l);
-              allowed = le_le (n - t) (c.keep + c.release) (n - t) (2 * min c.keep (n - t)) (omega arith) (omega arith);
+              allowed = grind (arith, nat_tests);
             }
 
     taken_second : OfKind Second c → Draw n t Second c b → Taken (after n t Second c) b
@@ -235,41 +216,26 @@ module _ (n t : ℕ) where
       where
         most : (v : Side) → n < 2 * amount d.of (vote v) → b ≡ ballot_number (proposal v) → Taken (after n t Second c) b
         most side.Keep l e =
-            let wk = d.within Keep in
-            let wr = d.within Release in
-            let pk = d.within ProposeKeep in
-            let pr = d.within ProposeRelease in
-            let o = d.within Open in
-            let s = d.size in
+            let w = drawn_from d in
             record {
               is = ProposeKeep;
               number = e;
-              allowed = le_lt (n - t) (c.keep + c.release) n (2 * min c.keep (n - t)) (omega arith) (omega arith);
+              allowed = grind (arith, nat_tests);
             }
         most side.Release l e =
-            let wk = d.within Keep in
-            let wr = d.within Release in
-            let pk = d.within ProposeKeep in
-            let pr = d.within ProposeRelease in
-            let o = d.within Open in
-            let s = d.size in
+            let w = drawn_from d in
             record {
               is = ProposeRelease;
               number = e;
-              allowed = le_lt (n - t) (c.keep + c.release) n (2 * min c.release (n - t)) (omega arith) (omega arith);
+              allowed = grind (arith, nat_tests);
             }
 
         few : (((v : Side) → 2 * amount d.of (vote v) ≤ n) × (b ≡ ballot_number Open)) → Taken (after n t Second c) b
         few f =
-            let wk = d.within Keep in
-            let wr = d.within Release in
-            let pk = d.within ProposeKeep in
-            let pr = d.within ProposeRelease in
-            let o = d.within Open in
-            let s = d.size in
+            let w = drawn_from d in
             let k = f.0 side.Keep in
             let r = f.0 side.Release in
-            record { is = Open; number = f.1; allowed = le-leb (n - t) (min c.keep (n / 2) + min c.release (n / 2)) (omega arith) }
+            record { is = Open; number = f.1; allowed = grind (arith, nat_tests) }
 
     taken_third : OfKind Third c → Draw n t Third c b → Taken (after n t Third c) b
     unfolding after
@@ -277,38 +243,23 @@ module _ (n t : ℕ) where
       where
         forced : (v : Side) → t < amount d.of (proposal v) → b ≡ ballot_number (vote v) → Taken (after n t Third c) b
         forced side.Keep l e =
-            let wk = d.within Keep in
-            let wr = d.within Release in
-            let pk = d.within ProposeKeep in
-            let pr = d.within ProposeRelease in
-            let o = d.within Open in
-            let s = d.size in
+            let w = drawn_from d in
             record {
               is = Keep;
               number = e;
-              allowed = or_left _ _ (le_lt (n - t) (c.propose_keep + c.propose_release + c.«open») t (min c.propose_keep (n - t)) (omega arith) (omega arith));
+              allowed = grind (arith, nat_tests);
             }
         forced side.Release l e =
-            let wk = d.within Keep in
-            let wr = d.within Release in
-            let pk = d.within ProposeKeep in
-            let pr = d.within ProposeRelease in
-            let o = d.within Open in
-            let s = d.size in
+            let w = drawn_from d in
             record {
               is = Release;
               number = e;
-              allowed = or_left _ _ (le_lt (n - t) (c.propose_keep + c.propose_release + c.«open») t (min c.propose_release (n - t)) (omega arith) (omega arith));
+              allowed = grind (arith, nat_tests);
             }
 
         few : ((v : Side) → amount d.of (proposal v) ≤ t) → leb (n - t) (min c.propose_keep t + min c.propose_release t + c.«open») ≡ true
         few f =
-            let wk = d.within Keep in
-            let wr = d.within Release in
-            let pk = d.within ProposeKeep in
-            let pr = d.within ProposeRelease in
-            let o = d.within Open in
-            let s = d.size in
+            let w = drawn_from d in
             let k = f side.Keep in
             let r = f side.Release in
             le-leb (n - t) (min c.propose_keep t + min c.propose_release t + c.«open») (omega arith)

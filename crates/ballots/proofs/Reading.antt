@@ -1,6 +1,7 @@
 -- Rows of the ballots of a memory. Assumes nothing.
-use Rattle.std.proofs.Common.{◌≡◌, ℕ, zero, suc, ◌+◌, ◌-◌, ◌*◌, ◌<◌, ◌≤◌, Bool, true, ltb, leb, List, None, Option, sym, ap, ◌∙◌, subst, arith}
-use Rattle.std.proofs.lemmas.Bool.{cond-true, cond-false, le-ltb, ltb-true, leb-true, and_parts, and_left}
+use Rattle.std.proofs.Common.{◌≡◌, ℕ, zero, suc, ◌+◌, ◌-◌, ◌*◌, ◌<◌, ◌≤◌, Bool, true, ltb, List, None, Option, sym, ap, ◌∙◌, subst, arith}
+use Rattle.std.proofs.lemmas.Bool.Decides.{nat_tests}
+use Rattle.std.proofs.lemmas.Bool.{cond-true, cond-false, le-ltb, and_left}
 use Rattle.protocol.specs.declared.messages.Subject.TheVariants as subject
 use Rattle.protocol.specs.declared.votes.Ballot.{Ballot}
 use Rattle.plan.specs.declared.plans.Plan.{Plan}
@@ -86,15 +87,10 @@ module _ (plan : Plan) (h : Held) (i c : ℕ) where
   }
 
   pub covered : (r : ℕ) → covers plan h i c r ≡ true → Covered plan h i c r
-  covered r e =
-      let a = and_parts (ltb i plan.n) _ e in
-      let b = and_parts (ltb c plan.cases) _ a.1 in
-      let d = and_parts (leb 1 r) _ b.1 in
-      let f = and_parts (leb r (3 * plan.phases)) _ d.1 in
-      record {
-        process = ltb-true i plan.n a.0;
-        case = ltb-true c plan.cases b.0;
-        first = leb-true 1 r d.0;
-        last = leb-true r (3 * plan.phases) f.0;
-        enough = f.1;
-      }
+  covered r e = record {
+    process = grind (arith, nat_tests);
+    case = grind (arith, nat_tests);
+    first = grind (arith, nat_tests);
+    last = grind (arith, nat_tests);
+    enough = grind (arith, nat_tests);
+  }

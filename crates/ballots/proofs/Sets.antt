@@ -1,6 +1,6 @@
 -- The sets of a round and what can be drawn from its counts. Assumes nothing.
 use Rattle.std.proofs.Common.{◌≡◌, ℕ, zero, suc, ◌<◌, ◌≤◌, Bool, true, false, cond, ◌&&◌, eqb, ltb, is_some, Some, None, Option, sym, refl, ap, ◌∙◌, subst, arith}
-use Rattle.std.proofs.lemmas.Bool.{both_ways, eqb-true}
+use Rattle.std.proofs.lemmas.Bool.{eqb-true}
 use Rattle.agreement.specs.Records.{has}
 use Rattle.protocol.specs.Counting.{below}
 use Rattle.protocol.specs.Numbers.{ballot_number}
@@ -54,7 +54,7 @@ first_says x g k (Some c) b = go (eqb (ballot_number c) (ballot_number b)) refl
 
 first_some : (x : ByBallot ℕ) (g : ℕ → Option Ballot) (k : ℕ) (o : Option Ballot) → first_by x g k o ≡ true → (b : Ballot) × (o ≡ Some b)
 unfolding first_by
-first_some x g k None e = absurd (both_ways false refl e)
+first_some x g k None e = absurd cc
 first_some x g k (Some b) e = (b, refl)
 
 some_only : (s : Bool) (o : Option Ballot) → (s ≡ true → (b : Ballot) × (o ≡ Some b)) → is_some (cond s o None) ≡ s

@@ -1,5 +1,5 @@
 -- What is left of a body by the test of what is allowed. Assumes nothing.
-use Rattle.std.proofs.Common.{◌≡◌, ℕ, Bool, true, false, cond, eqb, Some, None, Option, sym, refl, ap, ◌∙◌, arith}
+use Rattle.std.proofs.Common.{◌≡◌, ℕ, Bool, true, false, cond, eqb, Some, None, Option, sym, refl, ap, ◌∙◌}
 use Rattle.std.proofs.lemmas.Bool.{both_ways, cond-true, eqb-true}
 use Rattle.protocol.specs.Numbers.{ballot_number, ballot_of}
 use Rattle.protocol.specs.declared.votes.Ballot.{Ballot}
@@ -8,9 +8,6 @@ use Rattle.ballots.specs.Tallies.{says}
 use Rattle.ballots.specs.Votes.{takes, passed, sifted}
 use Rattle.ballots.specs.declared.tallies.ByBallot.{ByBallot}
 use Rattle.ballots.proofs.Counts.{ballot_of_lem, says_some}
-
-none_some : {X : Type 0} (b : Ballot) → ◌≡◌ {A = Option Ballot} None (Some b) → X
-none_some b e = let z : ◌≡◌ {A = ℕ} 0 1 = cc in absurd (omega arith)
 
 -- the number of a ballot
 ballot_number_lem : (c : ℕ) (b : Ballot) → ballot_of c ≡ Some b → c ≡ ballot_number b
@@ -25,19 +22,19 @@ ballot_number_lem c b e = go (eqb c 0) (eqb c 1) (eqb c 2) (eqb c 3) (eqb c 4) r
     go false false true s u v w x y z h = is 2 ProposeKeep x refl h
     go false false false true u v w x y z h = is 3 ProposeRelease y refl h
     go false false false false true v w x y z h = is 4 Open z refl h
-    go false false false false false v w x y z h = none_some b h
+    go false false false false false v w x y z h = absurd cc
 
 module _ (a : ByBallot Bool) where
   pub passed_some : (o : Option Ballot) (b : Ballot) → passed a o ≡ Some b → (o ≡ Some b) × (takes a b ≡ true)
-  passed_some None b e = none_some b e
+  passed_some None b e = absurd cc
   passed_some (Some c) b e = go (takes a c) refl e
     where
       go : (p : Bool) → takes a c ≡ p → cond p (Some c) None ≡ Some b → (Some c ≡ Some b) × (takes a b ≡ true)
       go true x h = let y : c ≡ b = cc in (h, sym (ap (takes a) y) ∙ x)
-      go false x h = none_some b h
+      go false x h = absurd cc
 
   pub sifted_some : (o : Option ℕ) (b : Ballot) → sifted a o ≡ Some b → (o ≡ Some (ballot_number b)) × (takes a b ≡ true)
-  sifted_some None b e = none_some b e
+  sifted_some None b e = absurd cc
   sifted_some (Some c) b e = let x = passed_some (ballot_of c) b e in (ap Some (ballot_number_lem c b x.0), x.1)
 
   pub some_sifted : (o : Option ℕ) (b : Ballot) → o ≡ Some (ballot_number b) → takes a b ≡ true → sifted a o ≡ Some b

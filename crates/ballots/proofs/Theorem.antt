@@ -1,6 +1,5 @@
 -- Counting finds the valid ballots. Assumes nothing.
 use Rattle.std.proofs.Common.{◌≡◌, ℕ, zero, suc, Bool, true, false, Some, sym, refl, ap, ◌∙◌, subst}
-use Rattle.std.proofs.lemmas.Bool.{both_ways}
 use Rattle.protocol.specs.Counting.{below}
 use Rattle.protocol.specs.Numbers.{ballot_number, vote}
 use Rattle.protocol.specs.declared.votes.Side.{Side}
@@ -23,9 +22,9 @@ use Rattle.ballots.proofs.Sifting.{sifted_some, some_sifted, not_sifted}
 begins : (b : Ballot) → takes beginning b ≡ true → (v : Side) × (ballot_number b ≡ ballot_number (vote v))
 begins Keep e = (side.Keep, refl)
 begins Release e = (side.Release, refl)
-begins ProposeKeep e = absurd (both_ways false refl e)
-begins ProposeRelease e = absurd (both_ways false refl e)
-begins Open e = absurd (both_ways false refl e)
+begins ProposeKeep e = absurd cc
+begins ProposeRelease e = absurd cc
+begins Open e = absurd cc
 
 vote_begins : (v : Side) → takes beginning (vote v) ≡ true
 vote_begins side.Keep = refl

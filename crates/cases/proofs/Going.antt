@@ -1,6 +1,7 @@
 -- How a process goes on, by the rows that the code makes and by the sets of the rule. Assumes nothing.
 use Rattle.std.proofs.Common.{◌≡◌, ℕ, ◌-◌, ◌<◌, ◌≤◌, Bool, true, false, cond, ◌&&◌, ltb, leb, List, count_by, is_some, Some, None, Option, sym, refl, ap, ◌∙◌, subst, ⊎_elim, arith}
 use Rattle.std.proofs.lemmas.Bool.{both_ways, and_parts, and_from, and_right, and_cases, cond-true, cond-false, cases_Bool, le-leb, lt-leb, leb-true, leb-false}
+use Rattle.std.proofs.lemmas.Option.{cond_some}
 use Rattle.protocol.specs.Counting.{below}
 use Rattle.protocol.specs.Numbers.{ballot_number}
 use Rattle.protocol.specs.declared.votes.Ballot.{Ballot}
@@ -27,7 +28,7 @@ use Rattle.cases.proofs.Lowest.{none_chosen}
 use Rattle.cases.proofs.Sides.{says}
 
 some_stands : (o : Option Ballot) → is_some o ≡ true → (b : Ballot) × (o ≡ Some b)
-some_stands None e = absurd (both_ways false refl e)
+some_stands None e = absurd cc
 some_stands (Some b) e = (b, refl)
 
 -- members that all pass are no more than those who pass
@@ -113,21 +114,17 @@ module _ (plan : Plan) (h : Held) (i c : ℕ) where
     where
       go : (b : Bool) → Some at ≡ cond b (Some (case_place plan i c)) None → at ≡ case_place plan i c
       go true y = cc
-      go false y = let z : ◌≡◌ {A = ℕ} 0 1 = cc in absurd (omega arith)
+      go false y = absurd cc
 
   abbrev by : Step
   by = step_by plan.n plan.t (kind (r - 1)) (chosen_counts plan h i c)
 
-  may_some : (m : Bool) (s : Step) → cond m (Some by) None ≡ Some s → (m ≡ true) × (by ≡ s)
-  may_some true s e = (refl, cc)
-  may_some false s e = let z : ◌≡◌ {A = ℕ} 0 1 = cc in absurd (omega arith)
-
   may_none : (m : Bool) → cond m (Some by) None ≡ None → m ≡ false
-  may_none true e = let z : ◌≡◌ {A = ℕ} 0 1 = cc in absurd (omega arith)
+  may_none true e = absurd cc
   may_none false e = refl
 
   may_parts : may_advance plan h i c ≡ true → (covers plan h i c r ≡ true) × (plan.n - plan.t ≤ below plan.n (voters plan h i c))
-  may_parts e = let a = and_parts (covers plan h i c r) (leb (plan.n - plan.t) (below plan.n (voters plan h i c))) e in (a.0, leb-true _ _ a.1)
+  may_parts e = let a = and_parts (covers plan h i c r) _ e in (a.0, leb-true _ _ a.1)
 
   says_chosen : plan.n - plan.t ≤ below plan.n (voters plan h i c) → Says plan.n plan.t G (r - 1) (chosen plan h i c) by
   says_chosen many = says plan.n plan.t G (r - 1) (chosen plan h i c) (advances plan.n plan.t G (r - 1) (voters plan h i c) (λ k l e. voter_valid k e) many).quorum
@@ -139,8 +136,8 @@ module _ (plan : Plan) (h : Held) (i c : ℕ) where
   law_at = record {
     voting = valid_voter;
     valid = voter_valid;
-    covered = λ s e. (may_parts (may_some (may_advance plan h i c) s e).0).0;
-    says = λ s e. let x = may_some (may_advance plan h i c) s e in subst (Says plan.n plan.t G (r - 1) (chosen plan h i c)) x.1 (says_chosen (may_parts x.0).1);
+    covered = λ s e. (may_parts (cond_some (may_advance plan h i c) by s e).0).0;
+    says = λ s e. let x = cond_some (may_advance plan h i c) by s e in subst (Says plan.n plan.t G (r - 1) (chosen plan h i c)) x.1 (says_chosen (may_parts x.0).1);
     none = λ e. none_full (may_none (may_advance plan h i c) e);
   }
 

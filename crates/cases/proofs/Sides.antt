@@ -1,17 +1,15 @@
 -- What a step says of the counts that it was made by. Assumes nothing.
 use Rattle.std.proofs.Common.{◌≡◌, ℕ, ◌*◌, ◌<◌, ◌≤◌, Bool, true, false, cond, ltb, Some, None, Option, sym, refl, ap, subst, inl, inr, arith}
 use Rattle.std.proofs.lemmas.Bool.{ltb-true, ltb-false}
+use Rattle.std.proofs.lemmas.Bool.Decides.{nat_tests}
 use Rattle.protocol.specs.Numbers.{ballot_number, vote, proposal}
 use Rattle.protocol.specs.declared.votes.Side.{Side}
 use Rattle.protocol.specs.declared.votes.Side.TheVariants.{Keep, Release}
 use Rattle.protocol.specs.declared.votes.Ballot.{Ballot}
 use Rattle.protocol.specs.declared.votes.Ballot.TheVariants.{Open}
-use Rattle.consensus.specs.Rounds.{Accepted, Kind, First, Second, Third, kind, tally, ahead, Allows}
+use Rattle.consensus.specs.Rounds.{Accepted, Kind, First, Second, Third, kind, tally, Allows}
 use Rattle.consensus.specs.Validity.{Quorum}
 use Rattle.cases.specs.Steps.{side_above, forced_side, proposed, voted, next_ballot, in_third, step_by, Says}
-
-none_is : {X Y : Type 0} (x : X) → ◌≡◌ {A = Option X} None (Some x) → Y
-none_is x e = let z : ◌≡◌ {A = ℕ} 0 1 = cc in absurd (omega arith)
 
 both : (P : Side → Type 0) → P Keep → P Release → (v : Side) → P v
 both P a b Keep = a
@@ -20,23 +18,12 @@ both P a b Release = b
 module _ (count : Ballot → ℕ) where
   module _ (bound : ℕ) where
     above_some : (v : Side) → side_above bound count ≡ Some v → bound < count (proposal v)
-    above_some v e = go (ltb bound (count (proposal Keep))) (ltb bound (count (proposal Release))) refl refl e
-      where
-        at : (u : Side) → ltb bound (count (proposal u)) ≡ true → ◌≡◌ {A = Option Side} (Some u) (Some v) → bound < count (proposal v)
-        at u x h = let same : u ≡ v = cc in let y = ap (λ (w : Side). count (proposal w)) same in omega (arith, ltb-true bound (count (proposal u)) x)
-
-        go : (a b : Bool) → ltb bound (count (proposal Keep)) ≡ a → ltb bound (count (proposal Release)) ≡ b → cond a (Some Keep) (cond b (Some Release) None) ≡ Some v → bound < count (proposal v)
-        go true b x y h = at Keep x h
-        go false true x y h = at Release y h
-        go false false x y h = none_is v h
+    above_some Keep e = grind (arith, nat_tests)
+    above_some Release e = grind (arith, nat_tests)
 
     above_none : side_above bound count ≡ None → (v : Side) → count (proposal v) ≤ bound
-    above_none e = go (ltb bound (count (proposal Keep))) (ltb bound (count (proposal Release))) refl refl e
-      where
-        go : (a b : Bool) → ltb bound (count (proposal Keep)) ≡ a → ltb bound (count (proposal Release)) ≡ b → cond a (Some Keep) (cond b (Some Release) None) ≡ None → (v : Side) → count (proposal v) ≤ bound
-        go true b x y h = none_is Keep (sym h)
-        go false true x y h = none_is Release (sym h)
-        go false false x y h = both (λ v. count (proposal v) ≤ bound) (ltb-false _ _ x) (ltb-false _ _ y)
+    above_none e Keep = grind (arith, nat_tests)
+    above_none e Release = grind (arith, nat_tests)
 
   module _ (n t : ℕ) where
     second_allowed : Allows n t Second count (ballot_number (proposed n count))
@@ -51,7 +38,7 @@ module _ (count : Ballot → ℕ) where
     third_allowed b e = go (forced_side t count) refl e
       where
         go : (o : Option Side) → forced_side t count ≡ o → voted o ≡ Some b → Allows n t Third count (ballot_number b)
-        go None x h = none_is b h
+        go None x h = absurd cc
         go (Some v) x h = let same : vote v ≡ b = cc in inl (v, above_some t v x, sym (ap ballot_number same))
 
     next_allowed : (q : Kind) (b : Ballot) → next_ballot n t q count ≡ Some b → Allows n t q count (ballot_number b)
@@ -61,31 +48,31 @@ module _ (count : Ballot → ℕ) where
 
     voted_none : (o : Option Side) → voted o ≡ None → o ≡ None
     voted_none None e = refl
-    voted_none (Some v) e = none_is (vote v) (sym e)
+    voted_none (Some v) e = absurd cc
 
     next_tossed : (q : Kind) → next_ballot n t q count ≡ None → (q ≡ Third) × ((v : Side) → count (proposal v) ≤ t) × ((v : Side) → Allows n t q count (ballot_number (vote v)))
-    next_tossed First e = none_is (vote (ahead count)) (sym e)
-    next_tossed Second e = none_is (proposed n count) (sym e)
+    next_tossed First e = absurd cc
+    next_tossed Second e = absurd cc
     next_tossed Third e = let few = above_none t (voted_none (forced_side t count) e) in (refl, few, λ v. inr (few, (v, refl)))
 
     third_some : (q : Kind) (o : Option Side) (v : Side) → in_third q o ≡ Some v → (q ≡ Third) × (o ≡ Some v)
-    third_some First o v e = none_is v e
-    third_some Second o v e = none_is v e
+    third_some First o v e = absurd cc
+    third_some Second o v e = absurd cc
     third_some Third o v e = (refl, e)
 
     next_forced : (q : Kind) (v : Side) → in_third q (forced_side t count) ≡ Some v → (q ≡ Third) × (t < count (proposal v)) × (next_ballot n t q count ≡ Some (vote v))
-    next_forced First v e = none_is v e
-    next_forced Second v e = none_is v e
+    next_forced First v e = absurd cc
+    next_forced Second v e = absurd cc
     next_forced Third v e = (refl, above_some t v e, ap voted e)
 
     next_unforced : (q : Kind) → q ≡ Third → in_third q (forced_side t count) ≡ None → ((v : Side) → count (proposal v) ≤ t) × (next_ballot n t q count ≡ None)
-    next_unforced First x e = let z : ◌≡◌ {A = ℕ} 0 1 = cc in absurd (omega arith)
-    next_unforced Second x e = let z : ◌≡◌ {A = ℕ} 0 1 = cc in absurd (omega arith)
+    next_unforced First x e = absurd cc
+    next_unforced Second x e = absurd cc
     next_unforced Third x e = (above_none t e, ap voted e)
 
     next_undecided : (q : Kind) → q ≡ Third → in_third q (side_above (2 * t) count) ≡ None → (v : Side) → count (proposal v) ≤ 2 * t
-    next_undecided First x e = let z : ◌≡◌ {A = ℕ} 0 1 = cc in absurd (omega arith)
-    next_undecided Second x e = let z : ◌≡◌ {A = ℕ} 0 1 = cc in absurd (omega arith)
+    next_undecided First x e = absurd cc
+    next_undecided Second x e = absurd cc
     next_undecided Third x e = above_none (2 * t) e
 
 -- the step of a full set says what the set says
