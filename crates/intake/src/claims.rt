@@ -4,9 +4,9 @@ use crate::words::Told;
 use anyhow::Context;
 use carrier::Carrier;
 use coin::WordCoin;
-use line::{advance, forge, open_case};
+use line::{advance, open_case};
 use memory::case_place;
-use protocol::{Ballot, Message, Refusal, Step, Subject};
+use protocol::{Ballot, Refusal, Step, Subject};
 
 const CASE: u64 = 0;
 
@@ -85,8 +85,7 @@ impl<'a, R: Print, C: Carrier> Story<'a, R, C> {
                 case: CASE,
                 round,
             };
-            let message = Message::new(FAULTY, addressee, step, subject, ballot.number())?;
-            let _ = forge(&self.line, &self.memory, &mut self.carrier, message)?;
+            self.forge(addressee, step, subject, ballot.number())?;
             let what = Told(step);
             let about = Told(subject);
             let name = Told(ballot);
@@ -142,19 +141,15 @@ impl<'a, R: Print, C: Carrier> Story<'a, R, C> {
 
     pub fn tell_decisions(&self) -> anyhow::Result<()> {
         for process in 0..FAULTY {
-            self.tell_decision(process)?;
-        }
-        Ok(())
-    }
-
-    fn tell_decision(&self, process: u64) -> anyhow::Result<()> {
-        let at = case_place(&self.line.plan(), process, CASE).context("the plan has no such case")?;
-        match self.memory.case_record(at).decision {
-            None => println!(self.rt; "counter {process} decided nothing")?,
-            Some(decision) => {
-                let name = Told(decision.side);
-                let phase = decision.phase;
-                println!(self.rt; "counter {process} decided {name} in phase {phase}")?;
+            let place = case_place(&self.line.plan(), process, CASE);
+            let at = place.context("the plan has no such case")?;
+            match self.memory.case_record(at).decision {
+                None => println!(self.rt; "counter {process} decided nothing")?,
+                Some(decision) => {
+                    let name = Told(decision.side);
+                    let phase = decision.phase;
+                    println!(self.rt; "counter {process} decided {name} in phase {phase}")?;
+                }
             }
         }
         Ok(())

@@ -4,8 +4,8 @@ use crate::words::{Told, shelf_of};
 use anyhow::Context;
 use carrier::Carrier;
 use item::{Item, Record};
-use line::{announce, forge};
-use protocol::{Message, Refusal, Step, Subject};
+use line::announce;
+use protocol::{Refusal, Step, Subject};
 use reading::{Reading, read};
 use rules::Delivered;
 
@@ -60,8 +60,7 @@ impl<'a, R: Print, C: Carrier> Story<'a, R, C> {
     fn forge_all(&mut self) -> anyhow::Result<()> {
         for (addressee, step, originator, serial, shelf) in FORGED {
             let subject = Subject::Item { originator, serial };
-            let message = Message::new(FAULTY, addressee, step, subject, violin(shelf)?.pack())?;
-            let _ = forge(&self.line, &self.memory, &mut self.carrier, message)?;
+            self.forge(addressee, step, subject, violin(shelf)?.pack())?;
             let what = Told(step);
             let about = Told(subject);
             println!(self.rt;

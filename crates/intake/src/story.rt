@@ -1,10 +1,10 @@
 // Who tells the story, in which order, and what its parts share.
 use crate::watches::Watch;
 use carrier::Carrier;
-use line::{deliver, open_line};
+use line::{deliver, forge, open_line};
 use memory::Memory;
 use plan::{Draft, Line, Plan};
-use protocol::Refusal;
+use protocol::{Message, Refusal, Step, Subject};
 use rules::Delivered;
 
 pub const FAULTY: u64 = 3;
@@ -49,6 +49,18 @@ impl<'a, R: Print, C: Carrier> Story<'a, R, C> {
             println!(self.rt; "{waiting} letters wait for counter {process}")?;
         }
         Ok(())
+    }
+
+    // The faulty process sends a message.
+    pub fn forge(
+        &mut self,
+        addressee: u64,
+        step: Step,
+        subject: Subject,
+        body: u64,
+    ) -> Result<(), Refusal> {
+        let message = Message::new(FAULTY, addressee, step, subject, body)?;
+        forge(&self.line, &self.memory, &mut self.carrier, message).map(|_| ())
     }
 
     // Delivers to the process until nothing waits for it, but no more than `most` messages. Which one is picked goes by
