@@ -1,14 +1,12 @@
 // A case about the item, from its opening to its end.
-use crate::story::{ALL, FAULTY, count_waiting};
-use crate::turns::{Choice, pick_of};
-use crate::words::{Written, ballot_name, side_name, step_name};
-use anyhow::anyhow;
+use crate::story::{ALL, FAULTY, OLDEST, SECOND_OLDEST, Story};
+use crate::words::Told;
+use anyhow::Context;
 use carrier::Carrier;
 use coin::WordCoin;
-use line::{advance, deliver, forge, open_case};
-use memory::{Memory, case_place};
-use plan::Line;
-use protocol::{Message, Refusal, Step, Subject};
+use line::{advance, open_case};
+use memory::case_place;
+use protocol::{Ballot, Refusal, Step, Subject};
 
 const CASE: u64 = 0;
 
@@ -16,186 +14,144 @@ const CASE: u64 = 0;
 const SIDES: u64 = 1;
 
 // Who votes what.
-const VOTES: [(u64, u64); 3] = [(0, 1), (1, 0), (2, 1)];
+const VOTES: [(u64, Ballot); 3] = [
+    (0, Ballot::Release),
+    (1, Ballot::Keep),
+    (2, Ballot::Release),
+];
 
 // What the faulty process says to whom, in which round and with which ballot. In the first round it tells two votes and
 // helps one of them on, in the third it does so with two proposals.
-const LIES: [(u64, Step, u64, u64); 15] = [
-    (0, Step::Initial, 1, 0),
-    (1, Step::Initial, 1, 0),
-    (2, Step::Initial, 1, 1),
-    (0, Step::Echo, 1, 0),
-    (1, Step::Echo, 1, 0),
-    (2, Step::Echo, 1, 0),
-    (0, Step::Initial, 2, 1),
-    (1, Step::Initial, 2, 1),
-    (2, Step::Initial, 2, 1),
-    (0, Step::Initial, 3, 3),
-    (1, Step::Initial, 3, 3),
-    (2, Step::Initial, 3, 2),
-    (0, Step::Echo, 3, 3),
-    (1, Step::Echo, 3, 3),
-    (2, Step::Echo, 3, 3),
+const LIES: [(u64, Step, u64, Ballot); 15] = [
+    (0, Step::Initial, 1, Ballot::Keep),
+    (1, Step::Initial, 1, Ballot::Keep),
+    (2, Step::Initial, 1, Ballot::Release),
+    (0, Step::Echo, 1, Ballot::Keep),
+    (1, Step::Echo, 1, Ballot::Keep),
+    (2, Step::Echo, 1, Ballot::Keep),
+    (0, Step::Initial, 2, Ballot::Release),
+    (1, Step::Initial, 2, Ballot::Release),
+    (2, Step::Initial, 2, Ballot::Release),
+    (0, Step::Initial, 3, Ballot::ProposeRelease),
+    (1, Step::Initial, 3, Ballot::ProposeRelease),
+    (2, Step::Initial, 3, Ballot::ProposeKeep),
+    (0, Step::Echo, 3, Ballot::ProposeRelease),
+    (1, Step::Echo, 3, Ballot::ProposeRelease),
+    (2, Step::Echo, 3, Ballot::ProposeRelease),
 ];
 
-// Who is served first, so that the counters come to different ballots. Then all are served in turn.
-const VISITS: [(u64, Choice, u64); 9] = [
-    (2, Choice::Oldest, ALL),
-    (1, Choice::Oldest, ALL),
-    (0, Choice::Oldest, ALL),
-    (2, Choice::Oldest, ALL),
-    (1, Choice::Oldest, ALL),
-    (2, Choice::Oldest, ALL),
-    (2, Choice::Oldest, ALL),
-    (0, Choice::SecondOldest, 16),
-    (1, Choice::Oldest, ALL),
+// Who is served first, which message is picked each time and how many at most, so that the counters come to different
+// ballots. Then all are served in turn.
+const VISITS: [(u64, u64, u64); 9] = [
+    (2, OLDEST, ALL),
+    (1, OLDEST, ALL),
+    (0, OLDEST, ALL),
+    (2, OLDEST, ALL),
+    (1, OLDEST, ALL),
+    (2, OLDEST, ALL),
+    (2, OLDEST, ALL),
+    (0, SECOND_OLDEST, 16),
+    (1, OLDEST, ALL),
 ];
 
-pub fn settle<C: Carrier>(
-    rt: &HostRuntime,
-    line: &Line,
-    memory: &mut Memory,
-    carrier: &mut C,
-) -> anyhow::Result<()> {
-    println!(rt; "the counters open a case about the violin")?;
-    open_all(rt, line, memory, carrier)?;
-    lie(rt, line, memory, carrier)?;
-    visit_all(rt, line, memory, carrier)?;
-    count_waiting(rt, carrier)?;
-    for process in 0..FAULTY {
-        tell_decision(rt, line, memory, process)?;
+impl<'a, R: Print, C: Carrier> Story<'a, R, C> {
+    pub fn settle(&mut self) -> anyhow::Result<()> {
+        println!(self.rt; "the counters open a case about the violin")?;
+        self.open_all()?;
+        self.lie()?;
+        self.visit_all()
     }
-    Ok(())
-}
 
-fn open_all<C: Carrier>(
-    rt: &HostRuntime,
-    line: &Line,
-    memory: &mut Memory,
-    carrier: &mut C,
-) -> anyhow::Result<()> {
-    for (process, vote) in VOTES {
-        let sent = open_case(line, memory, carrier, process, CASE, vote)?;
-        let name = ballot_name(vote);
-        println!(rt; "counter {process} opens case {CASE} with {name}, sends {sent}")?;
-    }
-    Ok(())
-}
-
-fn lie<C: Carrier>(
-    rt: &HostRuntime,
-    line: &Line,
-    memory: &Memory,
-    carrier: &mut C,
-) -> anyhow::Result<()> {
-    for (addressee, step, round, body) in LIES {
-        let subject = Subject::Ballot {
-            originator: FAULTY,
-            case: CASE,
-            round,
-        };
-        let message = Message::new(FAULTY, addressee, step, subject, body)?;
-        let _ = forge(line, memory, carrier, message)?;
-        let what = step_name(step);
-        let about = Written { subject };
-        let name = ballot_name(body);
-        println!(rt;
-            "counter {FAULTY} forges {what} to counter {addressee} about {about}: {name}"
-        )?;
-    }
-    Ok(())
-}
-
-fn visit_all<C: Carrier>(
-    rt: &HostRuntime,
-    line: &Line,
-    memory: &mut Memory,
-    carrier: &mut C,
-) -> anyhow::Result<()> {
-    for (process, choice, most) in VISITS {
-        visit(rt, line, memory, carrier, process, choice, most)?;
-    }
-    for _ in 0..11 {
-        for process in 0..FAULTY {
-            visit(rt, line, memory, carrier, process, Choice::Oldest, ALL)?;
+    fn open_all(&mut self) -> anyhow::Result<()> {
+        for (process, ballot) in VOTES {
+            let sent = open_case(
+                &self.line,
+                &mut self.memory,
+                &mut self.carrier,
+                process,
+                CASE,
+                ballot.number(),
+            )?;
+            let name = Told(ballot);
+            println!(self.rt; "counter {process} opens case {CASE} with {name}, sends {sent}")?;
         }
+        Ok(())
     }
-    Ok(())
-}
 
-// Delivers to the process, and then lets it advance.
-fn visit<C: Carrier>(
-    rt: &HostRuntime,
-    line: &Line,
-    memory: &mut Memory,
-    carrier: &mut C,
-    process: u64,
-    choice: Choice,
-    most: u64,
-) -> anyhow::Result<()> {
-    let taken = hand_letters(line, memory, carrier, process, choice, most)?;
-    println!(rt; "counter {process} takes letters: {taken}")?;
-    go_on(rt, line, memory, carrier, process)
-}
-
-// Delivers until nothing waits, but no more than `most` messages. Answers how many.
-fn hand_letters<C: Carrier>(
-    line: &Line,
-    memory: &mut Memory,
-    carrier: &mut C,
-    process: u64,
-    choice: Choice,
-    most: u64,
-) -> Result<u64, Refusal> {
-    for taken in 0..most {
-        let waiting = carrier.waiting_for(process);
-        if waiting == 0 {
-            return Ok(taken);
+    fn lie(&mut self) -> anyhow::Result<()> {
+        for (addressee, step, round, ballot) in LIES {
+            let subject = Subject::Ballot {
+                originator: FAULTY,
+                case: CASE,
+                round,
+            };
+            self.forge(addressee, step, subject, ballot.number())?;
+            let what = Told(step);
+            let about = Told(subject);
+            let name = Told(ballot);
+            println!(self.rt;
+                "counter {FAULTY} forges {what} to counter {addressee} about {about}: {name}"
+            )?;
         }
-        let _ = deliver(line, memory, carrier, process, pick_of(choice, waiting))?;
+        Ok(())
     }
-    Ok(most)
-}
 
-// Advances as often as the process may.
-fn go_on<C: Carrier>(
-    rt: &HostRuntime,
-    line: &Line,
-    memory: &mut Memory,
-    carrier: &mut C,
-    process: u64,
-) -> anyhow::Result<()> {
-    for _ in 0..6 {
-        match advance(line, memory, carrier, &WordCoin::new(SIDES), process, CASE) {
-            Ok(advanced) => {
-                let round = advanced.round;
-                let sent = advanced.posted;
-                println!(rt; "counter {process} advances to round {round}, sends {sent}")?;
+    fn visit_all(&mut self) -> anyhow::Result<()> {
+        for (process, pick, most) in VISITS {
+            self.visit(process, pick, most)?;
+        }
+        for _ in 0..11 {
+            for process in 0..FAULTY {
+                self.visit(process, OLDEST, ALL)?;
             }
-            Err(Refusal::MayNotAdvance) => return Ok(()),
-            Err(refusal) => return Err(refusal.into()),
         }
+        Ok(())
     }
-    Ok(())
-}
 
-fn tell_decision(
-    rt: &HostRuntime,
-    line: &Line,
-    memory: &Memory,
-    process: u64,
-) -> anyhow::Result<()> {
-    let plan = line.plan();
-    let Some(at) = case_place(&plan, process, CASE) else {
-        return Err(anyhow!("the plan has no such case"));
-    };
-    match memory.case_record(at).decision {
-        None => println!(rt; "counter {process} decided nothing")?,
-        Some(decision) => {
-            let name = side_name(decision.side);
-            let phase = decision.phase;
-            println!(rt; "counter {process} decided {name} in phase {phase}")?;
-        }
+    // Delivers to the process, and then lets it advance.
+    fn visit(&mut self, process: u64, pick: u64, most: u64) -> anyhow::Result<()> {
+        let taken = self.hand_over(process, most, |_| pick, |_, _| Ok(()))?;
+        println!(self.rt; "counter {process} takes letters: {taken}")?;
+        self.go_on(process)
     }
-    Ok(())
+
+    // Advances as often as the process may.
+    fn go_on(&mut self, process: u64) -> anyhow::Result<()> {
+        let coin = WordCoin::new(SIDES);
+        for _ in 0..6 {
+            match advance(
+                &self.line,
+                &mut self.memory,
+                &mut self.carrier,
+                &coin,
+                process,
+                CASE,
+            ) {
+                Ok(advanced) => {
+                    let round = advanced.round;
+                    let sent = advanced.posted;
+                    println!(self.rt; "counter {process} advances to round {round}, sends {sent}")?;
+                }
+                Err(Refusal::MayNotAdvance) => return Ok(()),
+                Err(refusal) => return Err(refusal.into()),
+            }
+        }
+        Ok(())
+    }
+
+    pub fn tell_decisions(&self) -> anyhow::Result<()> {
+        for process in 0..FAULTY {
+            let place = case_place(&self.line.plan(), process, CASE);
+            let at = place.context("the plan has no such case")?;
+            match self.memory.case_record(at).decision {
+                None => println!(self.rt; "counter {process} decided nothing")?,
+                Some(decision) => {
+                    let name = Told(decision.side);
+                    let phase = decision.phase;
+                    println!(self.rt; "counter {process} decided {name} in phase {phase}")?;
+                }
+            }
+        }
+        Ok(())
+    }
 }

@@ -3,14 +3,15 @@
 #![tactic(auto)]
 
 mod claims;
+mod finds;
 mod story;
-mod turns;
 mod watches;
 mod words;
 
 use carriers::Basket;
 use memory::{BroadcastRecord, CaseRecord, Memory, Slip, Stage};
 use protocol::{Message, Step, Subject};
+use story::{Story, open_four};
 use watches::Watch;
 
 const SILENT: BroadcastRecord = BroadcastRecord {
@@ -28,12 +29,8 @@ const ITEM: Subject = Subject::Item {
     serial: 0,
 };
 
-fn main(rt: HostRuntime) -> anyhow::Result<()> {
-    run(&rt)
-}
-
 // Lends the memory that four processes with two serials each need for a case of two phases.
-fn run(rt: &HostRuntime) -> anyhow::Result<()> {
+fn main(rt: HostRuntime) -> anyhow::Result<()> {
     let mut memory = Memory {
         broadcasts: &mut [SILENT; 128],
         bodies: &mut [None; 1024],
@@ -41,5 +38,13 @@ fn run(rt: &HostRuntime) -> anyhow::Result<()> {
         serials: &mut [0; 4],
     };
     let mut places = [Message::new(0, 0, Step::Initial, ITEM, 0)?; 256];
-    story::tell(rt, &mut memory, &mut Watch::new(Basket::new(&mut places)))
+    let carrier = Watch::new(Basket::new(&mut places));
+    let line = open_four(&mut memory, &carrier)?;
+    let mut story = Story {
+        rt: &rt,
+        line,
+        memory,
+        carrier,
+    };
+    story.tell()
 }

@@ -1,17 +1,16 @@
 // What things are called at the counters.
+use anyhow::Context;
 use item::{Item, Record};
 use protocol::{Ballot, Side, Step, Subject};
 use std::fmt;
 
-// A subject as it is written.
+// A value of another crate, as the counters call it.
 #[derive(Clone, Copy)]
-pub struct Written {
-    pub subject: Subject,
-}
+pub struct Told<T>(pub T);
 
-impl fmt::Display for Written {
+impl fmt::Display for Told<Subject> {
     fn fmt<W: fmt::Write>(&self, f: &mut fmt::Formatter<W>) -> fmt::Result {
-        match self.subject {
+        match self.0 {
             Subject::Item { originator, serial } => write!(f, "item {originator} {serial}"),
             Subject::Ballot {
                 originator,
@@ -22,19 +21,14 @@ impl fmt::Display for Written {
     }
 }
 
-// A record, field by field.
-#[derive(Clone, Copy)]
-pub struct Described {
-    pub record: Record,
-}
-
-impl fmt::Display for Described {
+// Field by field.
+impl fmt::Display for Told<Record> {
     fn fmt<W: fmt::Write>(&self, f: &mut fmt::Formatter<W>) -> fmt::Result {
-        let kind = self.record.kind();
-        let colour = self.record.colour();
-        let station = self.record.station();
-        let day = self.record.day();
-        let shelf = self.record.shelf();
+        let kind = self.0.kind();
+        let colour = self.0.colour();
+        let station = self.0.station();
+        let day = self.0.day();
+        let shelf = self.0.shelf();
         write!(
             f,
             "kind {kind}, colour {colour}, station {station}, day {day}, shelf {shelf}"
@@ -42,36 +36,39 @@ impl fmt::Display for Described {
     }
 }
 
-pub fn side_name(side: Side) -> &'static str {
-    match side {
-        Side::Keep => "keep",
-        Side::Release => "release",
+impl fmt::Display for Told<Side> {
+    fn fmt<W: fmt::Write>(&self, f: &mut fmt::Formatter<W>) -> fmt::Result {
+        f.write_str(match self.0 {
+            Side::Keep => "keep",
+            Side::Release => "release",
+        })
     }
 }
 
-pub fn ballot_name(body: u64) -> &'static str {
-    match Ballot::from_number(body) {
-        Some(Ballot::Keep) => "keep",
-        Some(Ballot::Release) => "release",
-        Some(Ballot::ProposeKeep) => "propose keep",
-        Some(Ballot::ProposeRelease) => "propose release",
-        Some(Ballot::Open) => "open",
-        None => "unreadable",
+impl fmt::Display for Told<Ballot> {
+    fn fmt<W: fmt::Write>(&self, f: &mut fmt::Formatter<W>) -> fmt::Result {
+        f.write_str(match self.0 {
+            Ballot::Keep => "keep",
+            Ballot::Release => "release",
+            Ballot::ProposeKeep => "propose keep",
+            Ballot::ProposeRelease => "propose release",
+            Ballot::Open => "open",
+        })
     }
 }
 
-pub fn step_name(step: Step) -> &'static str {
-    match step {
-        Step::Initial => "an initial",
-        Step::Echo => "an echo",
-        Step::Ready => "a ready",
+impl fmt::Display for Told<Step> {
+    fn fmt<W: fmt::Write>(&self, f: &mut fmt::Formatter<W>) -> fmt::Result {
+        f.write_str(match self.0 {
+            Step::Initial => "an initial",
+            Step::Echo => "an echo",
+            Step::Ready => "a ready",
+        })
     }
 }
 
-// The records of this story differ in their shelves alone. No record of it is on shelf 0, which stands for an unreadable body.
-pub fn shelf_of(body: u64) -> u64 {
-    match Record::unpack(body) {
-        Some(record) => record.shelf(),
-        None => 0,
-    }
+// The records of this story differ in their shelves alone.
+pub fn shelf_of(body: u64) -> anyhow::Result<u64> {
+    let record = Record::unpack(body).context("no record has this body")?;
+    Ok(record.shelf())
 }

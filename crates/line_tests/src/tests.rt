@@ -1,11 +1,12 @@
 // What the tests share.
 use carrier::Carrier;
-use item::{Item, Tag};
-use line::{announce, deliver, open_line};
+use item::Item;
+use line::{announce, deliver, forge, open_line};
 use memory::{BroadcastRecord, CaseRecord, Memory, Slip, Stage};
-use plan::{Draft, Line};
+use plan::{Draft, Line, Plan};
 use protocol::{Message, Refusal, Step, Subject};
 use reading::{Reading, read};
+use std::ops::Range;
 
 mod broadcasts;
 mod contents;
@@ -49,61 +50,86 @@ fn filler() -> Result<Message, Refusal> {
     Message::new(15, 15, Step::Ready, ITEM, 1)
 }
 
+fn draft_with_faulty(plan: Plan, faulty: Range<u64>) -> Result<Draft, Refusal> {
+    let mut draft = Draft::new(plan);
+    for process in faulty {
+        draft.mark_faulty(process)?;
+    }
+    Ok(draft)
+}
+
+fn unopened(draft: Draft) -> Line {
+    Line::from_draft(draft)
+}
+
 fn opened<C: Carrier>(draft: Draft, memory: &mut Memory, carrier: &C) -> Result<Line, Refusal> {
-    match open_line(draft, memory, carrier) {
-        Ok(line) => Ok(line),
-        Err(refused) => {
-            let (refusal, _draft) = refused;
-            Err(refusal)
+    open_line(draft, memory, carrier).map_err(|(refusal, _draft)| refusal)
+}
+
+// What the turns are handed: a line, and the memory and the carrier that are lent for it.
+#[derive(Drop)]
+struct Hall<'h, 'm, 'c, C> {
+    line: Line,
+    memory: &'h mut Memory<'m>,
+    carrier: &'c mut C,
+}
+
+impl<'h, 'm, 'c, C: Carrier> Hall<'h, 'm, 'c, C> {
+    fn new(line: Line, memory: &'h mut Memory<'m>, carrier: &'c mut C) -> Hall<'h, 'm, 'c, C> {
+        Hall {
+            line,
+            memory,
+            carrier,
         }
     }
-}
 
-// Announces a tag, and answers the serial and how many messages were posted.
-fn announced<C: Carrier>(
-    line: &Line,
-    memory: &mut Memory,
-    carrier: &mut C,
-    process: u64,
-    number: u64,
-) -> Result<(u64, u64), Refusal> {
-    let answer = announce(line, memory, carrier, process, &Tag::new(number)?)?;
-    Ok((answer.serial, answer.posted))
-}
+    // The serial, and how many messages were posted.
+    fn announce<I: Item>(&mut self, process: u64, value: &I) -> Result<(u64, u64), Refusal> {
+        let answer = announce(&self.line, self.memory, self.carrier, process, value)?;
+        Ok((answer.serial, answer.posted))
+    }
 
-// How many messages were posted, and whether the process accepted.
-fn delivered<C: Carrier>(
-    line: &Line,
-    memory: &mut Memory,
-    carrier: &mut C,
-    process: u64,
-    pick: u64,
-) -> Result<(u64, bool), Refusal> {
-    let answer = deliver(line, memory, carrier, process, pick)?;
-    Ok((answer.posted, answer.accepted))
-}
+    fn post(&mut self, message: Message) -> Result<(), Refusal> {
+        self.carrier.post(message)
+    }
 
-// Nothing accepted, unreadable, or the body of the value.
-fn seen<I: Item + Drop>(
-    line: &Line,
-    memory: &Memory,
-    process: u64,
-    subject: Subject,
-) -> Result<Option<Option<u64>>, Refusal> {
-    match read::<I>(line, memory, process, subject)? {
-        Reading::Nothing => Ok(None),
-        Reading::Unreadable => Ok(Some(None)),
-        Reading::Value(value) => Ok(Some(Some(value.pack()))),
+    fn forge(&mut self, message: Message) -> Result<u64, Refusal> {
+        forge(&self.line, self.memory, self.carrier, message)
+    }
+
+    // How many messages were posted, and whether the process accepted.
+    fn deliver(&mut self, process: u64, pick: u64) -> Result<(u64, bool), Refusal> {
+        let answer = deliver(&self.line, self.memory, self.carrier, process, pick)?;
+        Ok((answer.posted, answer.accepted))
+    }
+
+    // Nothing accepted, unreadable, or the body of the value.
+    fn read<I: Item + Drop>(
+        &self,
+        process: u64,
+        subject: Subject,
+    ) -> Result<Option<Option<u64>>, Refusal> {
+        match read::<I>(&self.line, self.memory, process, subject)? {
+            Reading::Nothing => Ok(None),
+            Reading::Unreadable => Ok(Some(None)),
+            Reading::Value(value) => Ok(Some(Some(value.pack()))),
+        }
+    }
+
+    fn heard(&self) -> usize {
+        heard(self.memory)
+    }
+
+    fn free(&self) -> u32 {
+        self.carrier.free()
+    }
+
+    fn waiting_for(&self, process: u64) -> u32 {
+        self.carrier.waiting_for(process)
     }
 }
 
 // How many body places hold something.
-fn heard(memory: &Memory) -> u64 {
-    let mut count = 0u64;
-    for at in 0..memory.bodies.len() {
-        if let Some(_) = memory.bodies[at] {
-            count = count.saturating_add(1);
-        }
-    }
-    count
+fn heard(memory: &Memory) -> usize {
+    memory.bodies.iter().flatten().count()
 }

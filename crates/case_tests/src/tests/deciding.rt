@@ -1,48 +1,66 @@
-use crate::tests::playing::{FAULTY, any_message, play};
+use crate::tests::playing::{FAULTY, KEEP, RELEASE, Row, any_message, play};
 use carrier::Carrier;
 use carriers::{Basket, Pile, Queue};
 use coin::WordCoin;
-use protocol::Side;
+use protocol::{Message, Refusal, Side};
 use std::process::Abort;
 use std::test::Fail;
 use tray::Tray;
 
 // Where everything is delivered before anybody advances, all go by the votes of the n - t lowest processes that vote.
 fn decide_in_step<C: Carrier>(rt: &impl Abort, carrier: &mut C) -> Result<(), Fail> {
-    let rows = [
-        (1, 0, [0; 7], Some(Side::Keep)),
-        (1, 0, [1; 7], Some(Side::Release)),
-        (4, 1, [0; 7], Some(Side::Keep)),
-        (4, 1, [1; 7], Some(Side::Release)),
-        (4, 1, [0, 1, 1, 0, 0, 0, 0], Some(Side::Release)),
-        (4, 1, [1, 0, 0, 1, 0, 0, 0], Some(Side::Keep)),
-        (4, 0, [1, 1, 0, 0, 0, 0, 0], Some(Side::Keep)),
-        (4, 1, [1, 1, 1, FAULTY, 0, 0, 0], Some(Side::Release)),
-        (4, 1, [FAULTY, 0, 1, 1, 0, 0, 0], Some(Side::Release)),
-        (7, 2, [1; 7], Some(Side::Release)),
-        (7, 2, [1, 1, 0, 0, 1, 0, 0], Some(Side::Release)),
-        (7, 2, [FAULTY, 1, 0, 1, 0, 0, FAULTY], Some(Side::Keep)),
+    let rows: [Row; 12] = [
+        (0, &[KEEP], Some(Side::Keep)),
+        (0, &[RELEASE], Some(Side::Release)),
+        (1, &[KEEP; 4], Some(Side::Keep)),
+        (1, &[RELEASE; 4], Some(Side::Release)),
+        (1, &[KEEP, RELEASE, RELEASE, KEEP], Some(Side::Release)),
+        (1, &[RELEASE, KEEP, KEEP, RELEASE], Some(Side::Keep)),
+        (0, &[RELEASE, RELEASE, KEEP, KEEP], Some(Side::Keep)),
+        (1, &[RELEASE, RELEASE, RELEASE, FAULTY], Some(Side::Release)),
+        (1, &[FAULTY, KEEP, RELEASE, RELEASE], Some(Side::Release)),
+        (2, &[RELEASE; 7], Some(Side::Release)),
+        (
+            2,
+            &[RELEASE, RELEASE, KEEP, KEEP, RELEASE, KEEP, KEEP],
+            Some(Side::Release),
+        ),
+        (
+            2,
+            &[FAULTY, RELEASE, KEEP, RELEASE, KEEP, KEEP, FAULTY],
+            Some(Side::Keep),
+        ),
     ];
+    let coin = WordCoin::new(0);
     for row in rows {
-        play(rt, carrier, &WordCoin::new(0), row, &[], false)?;
+        play(rt, carrier, &coin, row, &[], |hall| hall.settle())?;
     }
     Ok(())
 }
 
 // Where they advance as soon as they may, only what all voted for is sure to be decided.
 fn decide_in_haste<C: Carrier>(rt: &impl Abort, carrier: &mut C) -> Result<(), Fail> {
-    let rows = [
-        (1, 0, [1; 7], Some(Side::Release)),
-        (4, 1, [1; 7], Some(Side::Release)),
-        (4, 1, [0, 0, FAULTY, 0, 0, 0, 0], Some(Side::Keep)),
-        (4, 1, [0, 0, 1, 1, 0, 0, 0], None),
-        (4, 1, [1, 0, 1, 0, 0, 0, 0], None),
-        (7, 2, [0; 7], Some(Side::Keep)),
-        (7, 2, [0, 0, 0, 1, 1, 1, 1], None),
-        (7, 2, [1, 0, 1, FAULTY, 0, 1, 0], None),
+    let rows: [Row; 8] = [
+        (0, &[RELEASE], Some(Side::Release)),
+        (1, &[RELEASE; 4], Some(Side::Release)),
+        (1, &[KEEP, KEEP, FAULTY, KEEP], Some(Side::Keep)),
+        (1, &[KEEP, KEEP, RELEASE, RELEASE], None),
+        (1, &[RELEASE, KEEP, RELEASE, KEEP], None),
+        (2, &[KEEP; 7], Some(Side::Keep)),
+        (
+            2,
+            &[KEEP, KEEP, KEEP, RELEASE, RELEASE, RELEASE, RELEASE],
+            None,
+        ),
+        (
+            2,
+            &[RELEASE, KEEP, RELEASE, FAULTY, KEEP, RELEASE, KEEP],
+            None,
+        ),
     ];
+    let coin = WordCoin::new(1);
     for row in rows {
-        play(rt, carrier, &WordCoin::new(1), row, &[], true)?;
+        play(rt, carrier, &coin, row, &[], |hall| hall.hurry())?;
     }
     Ok(())
 }
@@ -52,26 +70,26 @@ fn decide<C: Carrier>(rt: &impl Abort, carrier: &mut C) -> Result<(), Fail> {
     decide_in_haste(rt, carrier)
 }
 
+fn places() -> Result<[Message; 2000], Refusal> {
+    Ok([any_message()?; 2000])
+}
+
 #[test]
 fn cases_end_over_a_queue(rt: HostRuntime) -> Result<(), Fail> {
-    let mut places = [any_message()?; 2000];
-    decide(&rt, &mut Queue::new(&mut places))
+    decide(&rt, &mut Queue::new(&mut places()?))
 }
 
 #[test]
 fn cases_end_over_a_pile(rt: HostRuntime) -> Result<(), Fail> {
-    let mut places = [any_message()?; 2000];
-    decide(&rt, &mut Pile::new(&mut places))
+    decide(&rt, &mut Pile::new(&mut places()?))
 }
 
 #[test]
 fn cases_end_over_a_basket(rt: HostRuntime) -> Result<(), Fail> {
-    let mut places = [any_message()?; 2000];
-    decide(&rt, &mut Basket::new(&mut places))
+    decide(&rt, &mut Basket::new(&mut places()?))
 }
 
 #[test]
 fn cases_end_over_a_tray(rt: HostRuntime) -> Result<(), Fail> {
-    let mut places = [any_message()?; 2000];
-    decide(&rt, &mut Tray::new(Queue::new(&mut places)))
+    decide(&rt, &mut Tray::new(Queue::new(&mut places()?)))
 }

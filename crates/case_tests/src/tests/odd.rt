@@ -1,8 +1,7 @@
-use crate::tests::playing::{UNOPENED, accepted, any_message, decision};
+use crate::tests::playing::{Hall, UNOPENED, accepted, any_message, decision, unopened};
 use carriers::Queue;
 use coin::WordCoin;
 use item::Tag;
-use line::{advance, announce, open_case};
 use memory::{CaseRecord, Decision, Memory, Slip};
 use plan::{Draft, Line, Plan};
 use protocol::{Refusal, Side};
@@ -14,27 +13,30 @@ type Answers = (
     Result<u64, Refusal>,
 );
 
+fn alone() -> Result<Line, Refusal> {
+    Ok(unopened(Draft::new(Plan::new(1, 0, 1, 1, 1)?)))
+}
+
 // A process alone, which has accepted release, release and its proposal, advances to a round, opens the case and
 // announces an item, as far as it may.
 fn answers(round: u8, serial: u8) -> Result<Answers, Refusal> {
-    let line = Line::from_draft(Draft::new(Plan::new(1, 0, 1, 1, 1)?));
     let mut places = [any_message()?; 3];
-    let mut carrier = Queue::new(&mut places);
-    let mut memory = Memory {
-        broadcasts: &mut [accepted(5), accepted(1), accepted(1), accepted(3)],
-        bodies: &mut [None; 8],
-        cases: &mut [CaseRecord { round, ..UNOPENED }],
-        serials: &mut [serial],
+    let mut hall = Hall {
+        line: alone()?,
+        memory: Memory {
+            broadcasts: &mut [accepted(5), accepted(1), accepted(1), accepted(3)],
+            bodies: &mut [None; 8],
+            cases: &mut [CaseRecord { round, ..UNOPENED }],
+            serials: &mut [serial],
+        },
+        carrier: &mut Queue::new(&mut places),
+        coin: &WordCoin::new(0),
     };
-    let reached = match advance(&line, &mut memory, &mut carrier, &WordCoin::new(0), 0, 0) {
-        Ok(reached) => Ok(reached.round),
-        Err(refusal) => Err(refusal),
-    };
-    let opened = open_case(&line, &mut memory, &mut carrier, 0, 0, 1);
-    let announced = match announce(&line, &mut memory, &mut carrier, 0, &Tag::new(6)?) {
-        Ok(announced) => Ok(announced.serial),
-        Err(refusal) => Err(refusal),
-    };
+    let reached = hall.advance(0).map(|reached| reached.round);
+    let opened = hall.open_case(0, 1);
+    let announced = hall
+        .announce(0, &Tag::new(6)?)
+        .map(|announced| announced.serial);
     Ok((reached, opened, announced))
 }
 
@@ -56,41 +58,37 @@ fn stored_numbers_are_taken_as_they_are(rt: HostRuntime) -> Result<(), Fail> {
     Ok(())
 }
 
-fn is_out(slip: Slip) -> bool {
-    match slip {
-        Slip::Out => true,
-        _ => false,
-    }
-}
-
 // Before the case is opened there is a decision already, of a phase that the plan has not. Neither opening nor a later
 // decision changes it.
 #[test]
 fn the_stored_decision_stands(rt: HostRuntime) -> Result<(), Fail> {
-    let line = Line::from_draft(Draft::new(Plan::new(1, 0, 1, 1, 1)?));
     let mut places = [any_message()?; 3];
-    let mut carrier = Queue::new(&mut places);
     let early = Decision {
         side: Side::Keep,
         phase: 9,
     };
-    let mut memory = Memory {
-        broadcasts: &mut [accepted(5), accepted(1), accepted(1), accepted(3)],
-        bodies: &mut [None; 8],
-        cases: &mut [CaseRecord {
-            round: 0,
-            decision: Some(early),
-            slip: Slip::Out,
-        }],
-        serials: &mut [0],
+    let mut hall = Hall {
+        line: alone()?,
+        memory: Memory {
+            broadcasts: &mut [accepted(5), accepted(1), accepted(1), accepted(3)],
+            bodies: &mut [None; 8],
+            cases: &mut [CaseRecord {
+                round: 0,
+                decision: Some(early),
+                slip: Slip::Out,
+            }],
+            serials: &mut [0],
+        },
+        carrier: &mut Queue::new(&mut places),
+        coin: &WordCoin::new(0),
     };
-    assert_eq!(rt; open_case(&line, &mut memory, &mut carrier, 0, 0, 1)?, 1);
+    assert_eq!(rt; hall.open_case(0, 1)?, 1);
     for round in 1..4 {
-        assert_eq!(rt; memory.case_record(0).round, round);
-        assert_eq!(rt; decision(&memory, 0), Some((Side::Keep, 9)));
-        let _ = advance(&line, &mut memory, &mut carrier, &WordCoin::new(0), 0, 0)?;
+        assert_eq!(rt; hall.memory.case_record(0).round, round);
+        assert_eq!(rt; decision(&hall.memory, 0), Some((Side::Keep, 9)));
+        let _ = hall.advance(0)?;
     }
-    assert_eq!(rt; decision(&memory, 0), Some((Side::Keep, 9)));
-    assert!(rt; is_out(memory.case_record(0).slip));
+    assert_eq!(rt; decision(&hall.memory, 0), Some((Side::Keep, 9)));
+    assert!(rt; matches!(hall.memory.case_record(0).slip, Slip::Out));
     Ok(())
 }

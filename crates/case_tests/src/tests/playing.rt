@@ -1,11 +1,12 @@
 // A case from its opening to its end.
-use crate::tests::resting::{hurry, settle};
 use carrier::Carrier;
 use coin::Coin;
-use line::{forge, open_case, open_line};
+use item::Item;
+use line::{advance, announce, deliver, forge, open_case, open_line};
 use memory::{BroadcastRecord, CaseRecord, Memory, Slip, Stage};
 use plan::{Draft, Line, Plan};
 use protocol::{Message, Refusal, Side, Step, Subject};
+use rules::{Advanced, Announced, Delivered};
 use std::process::Abort;
 use std::test::Fail;
 
@@ -19,11 +20,18 @@ pub const UNOPENED: CaseRecord = CaseRecord {
     slip: Slip::Absent,
 };
 
-// The vote of a process that is faulty.
-pub const FAULTY: u64 = 2;
+// What a process votes. A faulty one does not.
+pub const KEEP: Option<u64> = Some(0);
+
+pub const RELEASE: Option<u64> = Some(1);
+
+pub const FAULTY: Option<u64> = None;
 
 // A message of process 0 in case 0, of some round and step, with a body for each process.
 pub type Lie = (u64, Step, [u64; 4]);
+
+// How many processes may be faulty, what each process votes, and the side that is decided, where it is sure.
+pub type Row<'v> = (u64, &'v [Option<u64>], Option<Side>);
 
 pub fn accepted(body: u64) -> BroadcastRecord {
     BroadcastRecord {
@@ -39,104 +47,135 @@ pub fn any_message() -> Result<Message, Refusal> {
     Message::new(0, 0, Step::Initial, subject, 0)
 }
 
+pub fn unopened(draft: Draft) -> Line {
+    Line::from_draft(draft)
+}
+
 pub fn decision(memory: &Memory, place: usize) -> Option<(Side, u8)> {
-    match memory.case_record(place).decision {
-        Some(decision) => Some((decision.side, decision.phase)),
-        None => None,
+    let decision = memory.case_record(place).decision;
+    decision.map(|decision| (decision.side, decision.phase))
+}
+
+// What the turns are handed, with the coin for the line's only case.
+#[derive(Drop)]
+pub struct Hall<'m, 'c, 'k, C, K> {
+    pub line: Line,
+    pub memory: Memory<'m>,
+    pub carrier: &'c mut C,
+    pub coin: &'k K,
+}
+
+impl<'m, 'c, 'k, C: Carrier, K: Coin> Hall<'m, 'c, 'k, C, K> {
+    pub fn open_case(&mut self, process: u64, vote: u64) -> Result<u64, Refusal> {
+        open_case(&self.line, &mut self.memory, self.carrier, process, 0, vote)
+    }
+
+    pub fn announce<I: Item>(&mut self, process: u64, value: &I) -> Result<Announced, Refusal> {
+        announce(&self.line, &mut self.memory, self.carrier, process, value)
+    }
+
+    pub fn deliver(&mut self, process: u64, pick: u64) -> Result<Delivered, Refusal> {
+        deliver(&self.line, &mut self.memory, self.carrier, process, pick)
+    }
+
+    pub fn advance(&mut self, process: u64) -> Result<Advanced, Refusal> {
+        advance(
+            &self.line,
+            &mut self.memory,
+            self.carrier,
+            self.coin,
+            process,
+            0,
+        )
+    }
+
+    fn vote_all(&mut self, votes: &[Option<u64>]) -> Result<(), Refusal> {
+        for (process, vote) in (0..).zip(votes) {
+            if let Some(vote) = *vote {
+                let _ = self.open_case(process, vote)?;
+            }
+        }
+        Ok(())
+    }
+
+    fn lie(&mut self, (round, step, bodies): Lie) -> Result<(), Refusal> {
+        let subject = Subject::Ballot {
+            originator: 0,
+            case: 0,
+            round,
+        };
+        for (addressee, body) in (0..).zip(bodies) {
+            let message = Message::new(0, addressee, step, subject, body)?;
+            let _ = forge(&self.line, &self.memory, self.carrier, message)?;
+        }
+        Ok(())
+    }
+
+    // Every correct process has ended the case of two phases, and no two decided differently. Where a decision is told,
+    // each decided so.
+    pub fn check_end(&self, rt: &impl Abort, told: Option<(Side, u8)>) {
+        let mut last: Option<Side> = None;
+        for process in 0..self.line.plan().n() {
+            if !self.line.is_faulty(process) {
+                let place = process as usize;
+                assert_eq!(rt; self.memory.case_record(place).round, 7);
+                let decided = decision(&self.memory, place);
+                assert_eq!(rt; decided, told.or(decided));
+                if let Some((side, _)) = decided {
+                    assert_eq!(rt; side, last.unwrap_or(side));
+                    last = Some(side);
+                }
+            }
+        }
     }
 }
 
-fn draft(n: u64, t: u64, votes: [u64; 7]) -> Result<Draft, Refusal> {
-    let mut draft = Draft::new(Plan::new(n, t, 0, 1, 2)?);
-    for process in 0..7 {
-        if votes[process] == FAULTY {
-            draft.mark_faulty(process as u64)?;
+fn draft(t: u64, votes: &[Option<u64>]) -> Result<Draft, Refusal> {
+    let mut draft = Draft::new(Plan::new(votes.len() as u64, t, 0, 1, 2)?);
+    for (process, vote) in (0..).zip(votes) {
+        if vote.is_none() {
+            draft.mark_faulty(process)?;
         }
     }
     Ok(draft)
 }
 
-fn vote_all<C: Carrier>(
-    line: &Line,
-    memory: &mut Memory,
-    carrier: &mut C,
-    votes: [u64; 7],
-) -> Result<(), Refusal> {
-    let n = line.plan().n();
-    for process in 0..7 {
-        let number = process as u64;
-        if number < n && !line.is_faulty(number) {
-            let _ = open_case(line, memory, carrier, number, 0, votes[process])?;
-        }
-    }
-    Ok(())
-}
-
-fn tell<C: Carrier>(
-    line: &Line,
-    memory: &Memory,
-    carrier: &mut C,
-    lie: Lie,
-) -> Result<(), Refusal> {
-    let (round, step, bodies) = lie;
-    let subject = Subject::Ballot {
-        originator: 0,
-        case: 0,
-        round,
-    };
-    for addressee in 0..4 {
-        let message = Message::new(0, addressee as u64, step, subject, bodies[addressee])?;
-        let _ = forge(line, memory, carrier, message)?;
-    }
-    Ok(())
-}
-
-// Every correct process has ended the case of two phases, and no two decided differently. Where a side is told, each
-// decided it in that phase.
-pub fn check_end(rt: &impl Abort, line: &Line, memory: &Memory, side: Option<Side>, phase: u8) {
-    let mut last: Option<Side> = None;
-    for process in 0..line.plan().n() {
-        if !line.is_faulty(process) {
-            let record = memory.case_record(process as usize);
-            assert_eq!(rt; record.round, 7);
-            if let Some(decision) = record.decision {
-                assert_eq!(rt; decision.side, last.unwrap_or(decision.side));
-                last = Some(decision.side);
-            }
-            if let Some(side) = side {
-                assert_eq!(rt; decision(memory, process as usize), Some((side, phase)));
-            }
-        }
-    }
-}
-
-// A case of two phases. A side that is told is decided in phase 1.
-pub fn play<C: Carrier, K: Coin>(
+// A case of two phases, which `run` takes to its end. A side that is told is decided in phase 1.
+pub fn play<C, K, F>(
     rt: &impl Abort,
     carrier: &mut C,
     coin: &K,
-    (n, t, votes, side): (u64, u64, [u64; 7], Option<Side>),
+    row: Row,
     lies: &[Lie],
-    hasty: bool,
-) -> Result<(), Fail> {
+    run: F,
+) -> Result<(), Fail>
+where
+    C: Carrier,
+    K: Coin,
+    F: FnOnce(&mut Hall<C, K>) -> Result<(), Fail>,
+    requires { F.IsAlwaysCallable run }
+{
+    let (t, votes, side) = row;
     let mut memory = Memory {
         broadcasts: &mut [SILENT; 294],
         bodies: &mut [None; 4116],
         cases: &mut [UNOPENED; 7],
         serials: &mut [0; 7],
     };
-    let Ok(line) = open_line(draft(n, t, votes)?, &mut memory, carrier) else {
+    let Ok(line) = open_line(draft(t, votes)?, &mut memory, carrier) else {
         return Err(Fail::new("the line is not opened"));
     };
+    let mut hall = Hall {
+        line,
+        memory,
+        carrier,
+        coin,
+    };
     for lie in lies {
-        tell(&line, &memory, carrier, *lie)?;
+        hall.lie(*lie)?;
     }
-    vote_all(&line, &mut memory, carrier, votes)?;
-    if hasty {
-        hurry(&line, &mut memory, carrier, coin)?;
-    } else {
-        settle(&line, &mut memory, carrier, coin)?;
-    }
-    check_end(rt, &line, &memory, side, 1);
+    hall.vote_all(votes)?;
+    run(&mut hall)?;
+    hall.check_end(rt, side.map(|side| (side, 1)));
     Ok(())
 }

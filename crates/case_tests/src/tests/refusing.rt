@@ -1,4 +1,4 @@
-use crate::tests::playing::{SILENT, UNOPENED, accepted, any_message};
+use crate::tests::playing::{SILENT, UNOPENED, accepted, any_message, unopened};
 use carriers::Queue;
 use coin::WordCoin;
 use line::{advance, open_case};
@@ -20,7 +20,7 @@ const LAST: CaseRecord = CaseRecord {
 fn line() -> Result<Line, Refusal> {
     let mut draft = Draft::new(Plan::new(4, 1, 0, 1, 1)?);
     draft.mark_faulty(3)?;
-    Ok(Line::from_draft(draft))
+    Ok(unopened(draft))
 }
 
 // Process 0 has opened the case.

@@ -69,13 +69,8 @@ fn a_run_is_a_list_of_turns(rt: HostRuntime) -> Result<(), Fail> {
         serials: &mut [9],
     };
     let draft = Draft::new(Plan::new(1, 0, 1, 1, 1)?);
-    let Ok(line) = run(
-        draft,
-        &mut memory,
-        &mut carrier,
-        &coin,
-        &turns(Tag::new(5)?),
-    ) else {
+    let turns = turns(Tag::new(5)?);
+    let Ok(line) = run(draft, &mut memory, &mut carrier, &coin, &turns) else {
         return Err(Fail::new("the line is not opened"));
     };
     assert!(rt; is_idle(&carrier));
@@ -84,10 +79,11 @@ fn a_run_is_a_list_of_turns(rt: HostRuntime) -> Result<(), Fail> {
     for (place, expected) in [(0, 5), (1, 1), (2, 1), (3, 3)] {
         assert_eq!(rt; body(memory.stage(place)), Some(expected));
     }
-    match perform(&line, &mut memory, &mut carrier, &coin, &advance())? {
-        Answer::Advanced(reached) => assert_eq!(rt; (reached.round, reached.posted), (4, 0)),
-        _ => return Err(Fail::new("another answer")),
-    }
+    let answer = perform(&line, &mut memory, &mut carrier, &coin, &advance())?;
+    let Answer::Advanced(reached) = answer else {
+        return Err(Fail::new("another answer"));
+    };
+    assert_eq!(rt; (reached.round, reached.posted), (4, 0));
     assert_eq!(rt; decision(&memory, 0), Some((Side::Release, 1)));
     Ok(())
 }

@@ -1,34 +1,29 @@
-use crate::tests::playing::{SILENT, UNOPENED, any_message, check_end};
-use crate::tests::resting::{deliver_all, settle};
+use crate::tests::playing::{Hall, SILENT, UNOPENED, any_message};
 use carrier::Carrier;
 use carriers::Queue;
 use coin::{Coin, DealerStrip, OwnStrip, WordCoin};
-use line::{advance, open_case, open_line};
+use line::open_line;
 use memory::Memory;
-use plan::{Draft, Line, Plan};
+use plan::{Draft, Plan};
 use protocol::Side;
 use std::process::Abort;
 use std::test::Fail;
 
-// The votes are keep, keep, release, release. Processes 1 and 2 advance before process 0 votes, and so cast release. The
-// others see all votes and cast keep. The second round is even, the third is open, and so every process tosses the coin.
-fn vote_unevenly<C: Carrier, K: Coin>(
-    rt: &impl Abort,
-    line: &Line,
-    memory: &mut Memory,
-    carrier: &mut C,
-    coin: &K,
-) -> Result<(), Fail> {
-    for (process, vote) in [(1, 0), (2, 1), (3, 1)] {
-        assert_eq!(rt; open_case(line, memory, carrier, process, 0, vote)?, 4);
+impl<'m, 'c, 'k, C: Carrier, K: Coin> Hall<'m, 'c, 'k, C, K> {
+    // The votes are keep, keep, release, release. Processes 1 and 2 advance before process 0 votes, and so cast release.
+    // The others see all votes and cast keep. The second round is even, the third is open, and so every process tosses
+    // the coin.
+    fn vote_unevenly(&mut self, rt: &impl Abort) -> Result<(), Fail> {
+        for (process, vote) in [(1, 0), (2, 1), (3, 1)] {
+            assert_eq!(rt; self.open_case(process, vote)?, 4);
+        }
+        self.deliver_all()?;
+        for process in [1, 2] {
+            assert_eq!(rt; self.advance(process)?.round, 2);
+        }
+        assert_eq!(rt; self.open_case(0, 0)?, 4);
+        Ok(())
     }
-    deliver_all(line, memory, carrier)?;
-    for process in [1, 2] {
-        let reached = advance(line, memory, carrier, coin, process, 0)?;
-        assert_eq!(rt; reached.round, 2);
-    }
-    assert_eq!(rt; open_case(line, memory, carrier, 0, 0, 0)?, 4);
-    Ok(())
 }
 
 // All go by what the coin shows the processes 0, 1 and 2 for phase 1, and decide it in phase 2.
@@ -48,9 +43,15 @@ fn toss<C: Carrier, K: Coin>(
     let Ok(line) = open_line(draft, &mut memory, carrier) else {
         return Err(Fail::new("the line is not opened"));
     };
-    vote_unevenly(rt, &line, &mut memory, carrier, coin)?;
-    settle(&line, &mut memory, carrier, coin)?;
-    check_end(rt, &line, &memory, Some(side), 2);
+    let mut hall = Hall {
+        line,
+        memory,
+        carrier,
+        coin,
+    };
+    hall.vote_unevenly(rt)?;
+    hall.settle()?;
+    hall.check_end(rt, Some((side, 2)));
     Ok(())
 }
 

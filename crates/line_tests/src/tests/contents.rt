@@ -4,41 +4,33 @@ use carrier::Carrier;
 use carriers::{Pile, Queue};
 use item::{Record, Tag};
 use memory::{BroadcastRecord, Memory, Stage};
-use plan::{Draft, Line, Plan};
-use protocol::{Ballot, Message, Refusal, Step, Subject};
+use plan::{Draft, Plan};
+use protocol::{Ballot, Message, Refusal, Step};
 use std::test::Fail;
-
-const LAST_BALLOT: Subject = Subject::Ballot {
-    originator: 3,
-    case: 0,
-    round: 3,
-};
 
 const NOTHING: (u64, bool) = (0, false);
 
-// Posts a message for the process and delivers it at once. The carrier has to be a pile.
-fn given<C: Carrier>(
-    line: &Line,
-    memory: &mut Memory,
-    pile: &mut C,
-    message: Message,
-) -> Result<(u64, bool), Refusal> {
-    pile.post(message)?;
-    delivered(line, memory, pile, message.addressee(), 0)
+impl<'h, 'm, 'c, 'p> Hall<'h, 'm, 'c, Pile<'p>> {
+    // Posts a message and delivers it at once, since a pile takes the newest.
+    fn give(&mut self, message: Message) -> Result<(u64, bool), Refusal> {
+        self.post(message)?;
+        self.deliver(message.addressee(), 0)
+    }
 }
 
 // Of a plan with 4 processes, of which 1 may be faulty, 1 serial, and 1 case of 1 phase.
 #[test]
 fn what_lies_outside_the_plan_is_dropped(rt: HostRuntime) -> Result<(), Fail> {
-    let line = Line::from_draft(Draft::new(Plan::new(4, 1, 1, 1, 1)?));
-    let mut memory = Memory {
+    let mut places = [filler()?; 9];
+    let memory = &mut Memory {
         broadcasts: &mut [SILENT; 64],
         bodies: &mut [None; 512],
         cases: &mut [ODD_CASE; 4],
         serials: &mut [0; 4],
     };
-    let mut places = [filler()?; 9];
-    let mut pile = Pile::new(&mut places);
+    let line = unopened(Draft::new(Plan::new(4, 1, 1, 1, 1)?));
+    let carrier = &mut Pile::new(&mut places);
+    let mut hall = Hall::new(line, memory, carrier);
     let rows = [
         (4, ITEM),
         (15, ITEM),
@@ -55,22 +47,19 @@ fn what_lies_outside_the_plan_is_dropped(rt: HostRuntime) -> Result<(), Fail> {
     for (sender, subject) in rows {
         for step in [Step::Initial, Step::Echo, Step::Ready] {
             let message = Message::new(sender, 2, step, subject, 7)?;
-            assert_eq!(rt; given(&line, &mut memory, &mut pile, message), Ok(NOTHING));
+            assert_eq!(rt; hall.give(message), Ok(NOTHING));
         }
     }
-    assert_eq!(rt; heard(&memory), 0);
-    assert_eq!(rt; pile.free(), 9);
-    let message = Message::new(3, 2, Step::Initial, LAST_BALLOT, 7)?;
-    assert_eq!(rt;
-        given(&line, &mut memory, &mut pile, message),
-        Ok((4, false))
-    );
+    assert_eq!(rt; hall.heard(), 0);
+    assert_eq!(rt; hall.free(), 9);
+    let message = Message::new(3, 2, Step::Initial, ballot(3, 0, 3), 7)?;
+    assert_eq!(rt; hall.give(message), Ok((4, false)));
     Ok(())
 }
 
 // The messages that process 2 gets about an item of process 0: sender, step and body. Then what it does, and how many
 // bodies it has heard. Here E = 3, R = 2 and A = 3.
-const LIFE: [(u64, Step, u64, (u64, bool), u64); 20] = [
+const LIFE: [(u64, Step, u64, (u64, bool), usize); 20] = [
     (1, Step::Initial, 7, NOTHING, 0),
     (0, Step::Initial, 7, (4, false), 0),
     (0, Step::Initial, 7, NOTHING, 0),
@@ -95,22 +84,23 @@ const LIFE: [(u64, Step, u64, (u64, bool), u64); 20] = [
 
 #[test]
 fn repeats_and_latecomers_change_nothing(rt: HostRuntime) -> Result<(), Fail> {
-    let line = Line::from_draft(Draft::new(Plan::new(4, 1, 1, 0, 1)?));
-    let mut memory = Memory {
+    let mut places = [filler()?; 17];
+    let line = unopened(Draft::new(Plan::new(4, 1, 1, 0, 1)?));
+    let memory = &mut Memory {
         broadcasts: &mut [SILENT; 16],
         bodies: &mut [None; 128],
         cases: &mut [],
         serials: &mut [0; 4],
     };
-    let mut places = [filler()?; 17];
-    let mut pile = Pile::new(&mut places);
+    let carrier = &mut Pile::new(&mut places);
+    let mut hall = Hall::new(line, memory, carrier);
     for (sender, step, body, expected, bodies) in LIFE {
         let message = Message::new(sender, 2, step, ITEM, body)?;
-        assert_eq!(rt; given(&line, &mut memory, &mut pile, message), Ok(expected));
-        assert_eq!(rt; heard(&memory), bodies);
+        assert_eq!(rt; hall.give(message), Ok(expected));
+        assert_eq!(rt; hall.heard(), bodies);
     }
-    assert_eq!(rt; pile.free(), 9);
-    assert_eq!(rt; seen::<Tag>(&line, &memory, 2, ITEM), Ok(Some(Some(7))));
+    assert_eq!(rt; hall.free(), 9);
+    assert_eq!(rt; hall.read::<Tag>(2, ITEM), Ok(Some(Some(7))));
     Ok(())
 }
 
@@ -134,24 +124,23 @@ const ODDITIES: [(Stage, Step, u64, (u64, bool), Option<Option<u64>>); 13] = [
 
 #[test]
 fn a_call_goes_by_what_it_finds(rt: HostRuntime) -> Result<(), Fail> {
-    let line = Line::from_draft(Draft::new(Plan::new(4, 1, 1, 0, 1)?));
     for (stage, step, body, expected, reading) in ODDITIES {
-        let mut memory = Memory {
+        let mut places = [filler()?; 9];
+        let line = unopened(Draft::new(Plan::new(4, 1, 1, 0, 1)?));
+        let memory = &mut Memory {
             broadcasts: &mut [BroadcastRecord { stage }; 16],
             bodies: &mut [Some(7); 128],
             cases: &mut [],
             serials: &mut [1, 2, 255, 0],
         };
-        let mut places = [filler()?; 9];
-        let mut pile = Pile::new(&mut places);
+        let carrier = &mut Pile::new(&mut places);
+        let mut hall = Hall::new(line, memory, carrier);
+        let value = Tag::new(5)?;
         let message = Message::new(0, 1, step, ITEM, body)?;
-        assert_eq!(rt; given(&line, &mut memory, &mut pile, message), Ok(expected));
-        assert_eq!(rt; seen::<Tag>(&line, &memory, 1, ITEM), Ok(reading));
+        assert_eq!(rt; hall.give(message), Ok(expected));
+        assert_eq!(rt; hall.read::<Tag>(1, ITEM), Ok(reading));
         for process in 0..3 {
-            assert_eq!(rt;
-                announced(&line, &mut memory, &mut pile, process, 5),
-                Err(Refusal::SerialsUsedUp)
-            );
+            assert_eq!(rt; hall.announce(process, &value), Err(Refusal::SerialsUsedUp));
         }
     }
     Ok(())
@@ -160,27 +149,25 @@ fn a_call_goes_by_what_it_finds(rt: HostRuntime) -> Result<(), Fail> {
 // One place more than is needed in each part, and odd contents everywhere.
 #[test]
 fn opening_clears_what_is_needed_and_no_more(rt: HostRuntime) -> Result<(), Fail> {
-    let mut memory = Memory {
+    let memory = &mut Memory {
         broadcasts: &mut [ODD; 5],
         bodies: &mut [Some(9); 9],
         cases: &mut [ODD_CASE; 2],
         serials: &mut [255; 2],
     };
     let mut places = [filler()?; 3];
-    let mut queue = Queue::new(&mut places);
-    let line = opened(Draft::new(Plan::new(1, 0, 1, 1, 1)?), &mut memory, &queue)?;
-    assert_eq!(rt; heard(&memory), 1);
+    let carrier = &mut Queue::new(&mut places);
+    let line = opened(Draft::new(Plan::new(1, 0, 1, 1, 1)?), memory, carrier)?;
     assert_eq!(rt; memory.case_record(0).round, 0);
-    assert_eq!(rt; seen::<Tag>(&line, &memory, 0, ballot(0, 0, 3)), Ok(None));
-    assert_eq!(rt; announced(&line, &mut memory, &mut queue, 0, 5), Ok((0, 1)));
+    let mut hall = Hall::new(line, memory, carrier);
+    assert_eq!(rt; hall.heard(), 1);
+    assert_eq!(rt; hall.read::<Tag>(0, ballot(0, 0, 3)), Ok(None));
+    assert_eq!(rt; hall.announce(0, &Tag::new(5)?), Ok((0, 1)));
     for expected in [(1, false), (1, false), (0, true)] {
-        assert_eq!(rt;
-            delivered(&line, &mut memory, &mut queue, 0, 0),
-            Ok(expected)
-        );
+        assert_eq!(rt; hall.deliver(0, 0), Ok(expected));
     }
-    assert_eq!(rt; seen::<Tag>(&line, &memory, 0, ITEM), Ok(Some(Some(5))));
-    assert_eq!(rt; heard(&memory), 3);
+    assert_eq!(rt; hall.read::<Tag>(0, ITEM), Ok(Some(Some(5))));
+    assert_eq!(rt; hall.heard(), 3);
     assert_eq!(rt; memory.case_record(1).round, 200);
     assert_eq!(rt; memory.next_serial(1), 255);
     Ok(())
@@ -189,19 +176,19 @@ fn opening_clears_what_is_needed_and_no_more(rt: HostRuntime) -> Result<(), Fail
 // One record of 80 has the body 3: what process 2 keeps of the second item of process 3.
 #[test]
 fn reading_finds_the_record(rt: HostRuntime) -> Result<(), Fail> {
-    let mut draft = Draft::new(Plan::new(4, 1, 2, 1, 1)?);
-    draft.mark_faulty(3)?;
-    let line = Line::from_draft(draft);
     let mut records = [SILENT; 80];
     records[56] = BroadcastRecord {
         stage: Stage::Accepted(3),
     };
-    let memory = Memory {
+    let line = unopened(draft_with_faulty(Plan::new(4, 1, 2, 1, 1)?, 3..4)?);
+    let memory = &mut Memory {
         broadcasts: &mut records,
         bodies: &mut [None; 640],
         cases: &mut [ODD_CASE; 4],
         serials: &mut [0; 4],
     };
+    let carrier = &mut Queue::new(&mut []);
+    let hall = Hall::new(line, memory, carrier);
     let rows = [
         (2, item(3, 1), Ok(Some(Some(3)))),
         (2, item(3, 0), Ok(None)),
@@ -219,15 +206,9 @@ fn reading_finds_the_record(rt: HostRuntime) -> Result<(), Fail> {
         (2, ballot(3, 0, 4), Err(Refusal::SubjectOutOfPlan)),
     ];
     for (process, subject, expected) in rows {
-        assert_eq!(rt; seen::<Tag>(&line, &memory, process, subject), expected);
+        assert_eq!(rt; hall.read::<Tag>(process, subject), expected);
     }
-    assert_eq!(rt;
-        seen::<Ballot>(&line, &memory, 2, item(3, 1)),
-        Ok(Some(Some(3)))
-    );
-    assert_eq!(rt;
-        seen::<Record>(&line, &memory, 2, item(3, 1)),
-        Ok(Some(None))
-    );
+    assert_eq!(rt; hall.read::<Ballot>(2, item(3, 1)), Ok(Some(Some(3))));
+    assert_eq!(rt; hall.read::<Record>(2, item(3, 1)), Ok(Some(None)));
     Ok(())
 }

@@ -3,7 +3,7 @@ use crate::tests::*;
 use carrier::Carrier;
 use carriers::Queue;
 use item::Tag;
-use line::{forge, open_line};
+use line::open_line;
 use memory::Memory;
 use plan::{Draft, Line, Plan};
 use protocol::{Message, Refusal, Step};
@@ -16,17 +16,14 @@ fn refused<C: Carrier>(
     memory: &mut Memory,
     carrier: &C,
 ) -> Result<(Refusal, Draft), Fail> {
-    match open_line(draft, memory, carrier) {
-        Ok(_) => Err(Fail::new("opened")),
-        Err(refused) => Ok(refused),
-    }
+    open_line(draft, memory, carrier)
+        .err()
+        .ok_or_else(|| Fail::new("opened"))
 }
 
-// A line of which process 3 is faulty. It was not opened.
+// Process 3 is faulty.
 fn line_of(plan: Plan) -> Result<Line, Refusal> {
-    let mut draft = Draft::new(plan);
-    draft.mark_faulty(3)?;
-    Ok(Line::from_draft(draft))
+    Ok(unopened(draft_with_faulty(plan, 3..4)?))
 }
 
 // A message waits, and the calls name a process outside the plan.
@@ -42,13 +39,13 @@ fn all_refuse<C: Carrier>(
     carrier.post(message)?;
     let (refusal, draft) = refused(Draft::new(plan), memory, carrier)?;
     assert_eq!(rt; refusal, opening);
-    let line = Line::from_draft(draft);
-    assert_eq!(rt; announced(&line, memory, carrier, 4, 1), Err(others));
-    assert_eq!(rt; forge(&line, memory, carrier, message), Err(others));
-    assert_eq!(rt; delivered(&line, memory, carrier, 4, 0), Err(others));
-    assert_eq!(rt; seen::<Tag>(&line, memory, 4, item(4, 2)), Err(others));
-    assert_eq!(rt; carrier.waiting_for(0), 1);
-    assert_eq!(rt; carrier.free(), 0);
+    let mut hall = Hall::new(unopened(draft), memory, carrier);
+    assert_eq!(rt; hall.announce(4, &Tag::new(1)?), Err(others));
+    assert_eq!(rt; hall.forge(message), Err(others));
+    assert_eq!(rt; hall.deliver(4, 0), Err(others));
+    assert_eq!(rt; hall.read::<Tag>(4, item(4, 2)), Err(others));
+    assert_eq!(rt; hall.waiting_for(0), 1);
+    assert_eq!(rt; hall.free(), 0);
     Ok(())
 }
 
@@ -82,7 +79,7 @@ fn a_place_too_few_is_refused_by_all(rt: HostRuntime) -> Result<(), Fail> {
             opening,
             others,
         )?;
-        assert_eq!(rt; heard(&memory), bodies as u64);
+        assert_eq!(rt; heard(&memory), bodies);
     }
     Ok(())
 }
@@ -100,8 +97,7 @@ fn opening_waits_for_an_empty_carrier(rt: HostRuntime) -> Result<(), Fail> {
         let mut places = [filler()?; 1];
         let mut queue = Queue::new(&mut places);
         queue.post(Message::new(0, addressee, Step::Echo, ITEM, 1)?)?;
-        let mut draft = Draft::new(Plan::new(4, 1, 1, 0, 1)?);
-        draft.mark_faulty(3)?;
+        let draft = draft_with_faulty(Plan::new(4, 1, 1, 0, 1)?, 3..4)?;
         let (refusal, draft) = refused(draft, &mut memory, &queue)?;
         assert_eq!(rt; refusal, Refusal::MessageWaiting);
         assert!(rt; draft.is_faulty(3));
@@ -114,15 +110,16 @@ fn opening_waits_for_an_empty_carrier(rt: HostRuntime) -> Result<(), Fail> {
 // Two serials for each process, and room for three announcements.
 #[test]
 fn announcing_takes_serials_and_room(rt: HostRuntime) -> Result<(), Fail> {
-    let line = line_of(Plan::new(4, 1, 2, 0, 1)?)?;
-    let mut memory = Memory {
+    let memory = &mut Memory {
         broadcasts: &mut [SILENT; 32],
         bodies: &mut [None; 256],
         cases: &mut [],
         serials: &mut [0, 0, 1, 0],
     };
     let mut places = [filler()?; 15];
-    let mut queue = Queue::new(&mut places);
+    let line = line_of(Plan::new(4, 1, 2, 0, 1)?)?;
+    let carrier = &mut Queue::new(&mut places);
+    let mut hall = Hall::new(line, memory, carrier);
     let rows = [
         (0, Ok((0, 4))),
         (0, Ok((1, 4))),
@@ -137,12 +134,9 @@ fn announcing_takes_serials_and_room(rt: HostRuntime) -> Result<(), Fail> {
         (1, Err(Refusal::NoRoom)),
     ];
     for (process, expected) in rows {
-        assert_eq!(rt;
-            announced(&line, &mut memory, &mut queue, process, 5),
-            expected
-        );
+        assert_eq!(rt; hall.announce(process, &Tag::new(5)?), expected);
     }
-    assert_eq!(rt; queue.free(), 3);
+    assert_eq!(rt; hall.free(), 3);
     assert_eq!(rt; memory.next_serial(0), 2);
     assert_eq!(rt; memory.next_serial(1), 0);
     Ok(())
@@ -151,15 +145,16 @@ fn announcing_takes_serials_and_room(rt: HostRuntime) -> Result<(), Fail> {
 // Room for three forged messages. The plan has 1 serial, and 1 case of 1 phase.
 #[test]
 fn forging_is_for_faulty_senders_within_the_plan(rt: HostRuntime) -> Result<(), Fail> {
+    let mut places = [filler()?; 3];
     let line = line_of(Plan::new(4, 1, 1, 1, 1)?)?;
-    let memory = Memory {
+    let memory = &mut Memory {
         broadcasts: &mut [SILENT; 64],
         bodies: &mut [None; 512],
         cases: &mut [ODD_CASE; 4],
         serials: &mut [0; 4],
     };
-    let mut places = [filler()?; 3];
-    let mut queue = Queue::new(&mut places);
+    let carrier = &mut Queue::new(&mut places);
+    let mut hall = Hall::new(line, memory, carrier);
     let rows = [
         (4, 0, item(4, 0), Err(Refusal::ProcessOutOfRange)),
         (3, 4, item(4, 0), Err(Refusal::ProcessOutOfRange)),
@@ -179,9 +174,9 @@ fn forging_is_for_faulty_senders_within_the_plan(rt: HostRuntime) -> Result<(), 
     ];
     for (sender, addressee, subject, expected) in rows {
         let message = Message::new(sender, addressee, Step::Ready, subject, 7)?;
-        assert_eq!(rt; forge(&line, &memory, &mut queue, message), expected);
+        assert_eq!(rt; hall.forge(message), expected);
     }
-    assert_eq!(rt; queue.waiting_for(0), 2);
+    assert_eq!(rt; hall.waiting_for(0), 2);
     Ok(())
 }
 
@@ -194,23 +189,20 @@ fn delivers_in<C: Carrier>(
     expected: Result<(u64, bool), Refusal>,
     left: u32,
 ) -> Result<(), Fail> {
-    let line = line_of(Plan::new(4, 1, 1, 0, 1)?)?;
-    assert_eq!(rt;
-        delivered(&line, memory, carrier, 0, 0),
-        Err(Refusal::NothingWaiting)
-    );
+    let mut hall = Hall::new(line_of(Plan::new(4, 1, 1, 0, 1)?)?, memory, carrier);
+    assert_eq!(rt; hall.deliver(0, 0), Err(Refusal::NothingWaiting));
     for addressee in [0, 3] {
-        carrier.post(Message::new(1, addressee, Step::Ready, ITEM, 7)?)?;
+        hall.post(Message::new(1, addressee, Step::Ready, ITEM, 7)?)?;
     }
-    let free = carrier.free();
-    assert_eq!(rt; delivered(&line, memory, carrier, 0, 0), expected);
+    let free = hall.free();
+    assert_eq!(rt; hall.deliver(0, 0), expected);
     if expected.is_err() {
-        assert_eq!(rt; carrier.free(), free);
-        assert_eq!(rt; carrier.waiting_for(0), 1);
-        assert_eq!(rt; seen::<Tag>(&line, memory, 0, ITEM), Ok(None));
+        assert_eq!(rt; hall.free(), free);
+        assert_eq!(rt; hall.waiting_for(0), 1);
+        assert_eq!(rt; hall.read::<Tag>(0, ITEM), Ok(None));
     }
-    assert_eq!(rt; delivered(&line, memory, carrier, 3, 0), Ok((0, false)));
-    assert_eq!(rt; carrier.waiting_for(3), left);
+    assert_eq!(rt; hall.deliver(3, 0), Ok((0, false)));
+    assert_eq!(rt; hall.waiting_for(3), left);
     Ok(())
 }
 
@@ -236,10 +228,23 @@ fn delivering_wants_room_for_two_to_each(rt: HostRuntime) -> Result<(), Fail> {
     Ok(())
 }
 
-// Nine processes, and a tray with its 8 places over none or one.
+// Process 0 of nine announces. `free` places are free then.
+fn announces_in<C: Carrier>(
+    rt: &impl Abort,
+    memory: &mut Memory,
+    carrier: &mut C,
+    expected: Result<(u64, u64), Refusal>,
+    free: u32,
+) -> Result<(), Fail> {
+    let mut hall = Hall::new(line_of(Plan::new(9, 2, 1, 0, 1)?)?, memory, carrier);
+    assert_eq!(rt; hall.announce(0, &Tag::new(5)?), expected);
+    assert_eq!(rt; hall.free(), free);
+    Ok(())
+}
+
+// A tray with its 8 places over none or one.
 #[test]
 fn announcing_wants_room_for_one_to_each(rt: HostRuntime) -> Result<(), Fail> {
-    let line = line_of(Plan::new(9, 2, 1, 0, 1)?)?;
     let rows = [(0, Err(Refusal::NoRoom), 8), (1, Ok((0, 9)), 0)];
     let mut memory = Memory {
         broadcasts: &mut [SILENT; 81],
@@ -250,8 +255,7 @@ fn announcing_wants_room_for_one_to_each(rt: HostRuntime) -> Result<(), Fail> {
     for (below, expected, free) in rows {
         let mut places = [filler()?; 1];
         let mut tray = Tray::new(Queue::new(&mut places[0..below.min(1)]));
-        assert_eq!(rt; announced(&line, &mut memory, &mut tray, 0, 5), expected);
-        assert_eq!(rt; tray.free(), free);
+        announces_in(&rt, &mut memory, &mut tray, expected, free)?;
     }
     Ok(())
 }
