@@ -9,20 +9,10 @@ mod watches;
 mod words;
 
 use carriers::Basket;
-use memory::{BroadcastRecord, CaseRecord, Memory, Slip, Stage};
+use memory::{BroadcastRecord, CaseRecord, Memory};
 use protocol::{Message, Step, Subject};
 use story::{Story, open_four};
 use watches::Watch;
-
-const SILENT: BroadcastRecord = BroadcastRecord {
-    stage: Stage::Silent,
-};
-
-const UNOPENED: CaseRecord = CaseRecord {
-    round: 0,
-    decision: None,
-    slip: Slip::Absent,
-};
 
 const ITEM: Subject = Subject::Item {
     originator: 0,
@@ -32,9 +22,9 @@ const ITEM: Subject = Subject::Item {
 // Lends the memory that four processes with two serials each need for a case of two phases.
 fn main(rt: HostRuntime) -> anyhow::Result<()> {
     let mut memory = Memory {
-        broadcasts: &mut [SILENT; 128],
+        broadcasts: &mut [BroadcastRecord::SILENT; 128],
         bodies: &mut [None; 1024],
-        cases: &mut [UNOPENED; 4],
+        cases: &mut [CaseRecord::UNOPENED; 4],
         serials: &mut [0; 4],
     };
     let mut places = [Message::new(0, 0, Step::Initial, ITEM, 0)?; 256];

@@ -12,10 +12,6 @@ mod broadcasts;
 mod contents;
 mod refusals;
 
-const SILENT: BroadcastRecord = BroadcastRecord {
-    stage: Stage::Silent,
-};
-
 // Places that no opening has cleared.
 const ODD: BroadcastRecord = BroadcastRecord {
     stage: Stage::Accepted(9),
@@ -56,10 +52,6 @@ fn draft_with_faulty(plan: Plan, faulty: Range<u64>) -> Result<Draft, Refusal> {
         draft.mark_faulty(process)?;
     }
     Ok(draft)
-}
-
-fn unopened(draft: Draft) -> Line {
-    Line::from_draft(draft)
 }
 
 fn opened<C: Carrier>(draft: Draft, memory: &mut Memory, carrier: &C) -> Result<Line, Refusal> {

@@ -1,4 +1,4 @@
-use crate::tests::playing::{Hall, UNOPENED, accepted, any_message, decision, unopened};
+use crate::tests::playing::{Hall, accepted, any_message, decision};
 use carriers::Queue;
 use coin::WordCoin;
 use item::Tag;
@@ -14,7 +14,7 @@ type Answers = (
 );
 
 fn alone() -> Result<Line, Refusal> {
-    Ok(unopened(Draft::new(Plan::new(1, 0, 1, 1, 1)?)))
+    Ok(Line::from(Draft::new(Plan::new(1, 0, 1, 1, 1)?)))
 }
 
 // A process alone, which has accepted release, release and its proposal, advances to a round, opens the case and
@@ -26,7 +26,10 @@ fn answers(round: u8, serial: u8) -> Result<Answers, Refusal> {
         memory: Memory {
             broadcasts: &mut [accepted(5), accepted(1), accepted(1), accepted(3)],
             bodies: &mut [None; 8],
-            cases: &mut [CaseRecord { round, ..UNOPENED }],
+            cases: &mut [CaseRecord {
+                round,
+                ..CaseRecord::UNOPENED
+            }],
             serials: &mut [serial],
         },
         carrier: &mut Queue::new(&mut places),
@@ -89,6 +92,6 @@ fn the_stored_decision_stands(rt: HostRuntime) -> Result<(), Fail> {
         let _ = hall.advance(0)?;
     }
     assert_eq!(rt; decision(&hall.memory, 0), Some((Side::Keep, 9)));
-    assert!(rt; matches!(hall.memory.case_record(0).slip, Slip::Out));
+    assert_eq!(rt; hall.memory.case_record(0).slip, Slip::Out);
     Ok(())
 }

@@ -3,22 +3,12 @@ use carrier::Carrier;
 use coin::Coin;
 use item::Item;
 use line::{advance, announce, deliver, forge, open_case, open_line};
-use memory::{BroadcastRecord, CaseRecord, Memory, Slip, Stage};
+use memory::{BroadcastRecord, CaseRecord, Memory, Stage};
 use plan::{Draft, Line, Plan};
 use protocol::{Message, Refusal, Side, Step, Subject};
 use rules::{Advanced, Announced, Delivered};
 use std::process::Abort;
 use std::test::Fail;
-
-pub const SILENT: BroadcastRecord = BroadcastRecord {
-    stage: Stage::Silent,
-};
-
-pub const UNOPENED: CaseRecord = CaseRecord {
-    round: 0,
-    decision: None,
-    slip: Slip::Absent,
-};
 
 // What a process votes. A faulty one does not.
 pub const KEEP: Option<u64> = Some(0);
@@ -45,10 +35,6 @@ pub fn any_message() -> Result<Message, Refusal> {
         serial: 0,
     };
     Message::new(0, 0, Step::Initial, subject, 0)
-}
-
-pub fn unopened(draft: Draft) -> Line {
-    Line::from_draft(draft)
 }
 
 pub fn decision(memory: &Memory, place: usize) -> Option<(Side, u8)> {
@@ -157,9 +143,9 @@ where
 {
     let (t, votes, side) = row;
     let mut memory = Memory {
-        broadcasts: &mut [SILENT; 294],
+        broadcasts: &mut [BroadcastRecord::SILENT; 294],
         bodies: &mut [None; 4116],
-        cases: &mut [UNOPENED; 7],
+        cases: &mut [CaseRecord::UNOPENED; 7],
         serials: &mut [0; 7],
     };
     let Ok(line) = open_line(draft(t, votes)?, &mut memory, carrier) else {

@@ -1,26 +1,26 @@
-use crate::tests::playing::{SILENT, UNOPENED, accepted, any_message, unopened};
+use crate::tests::playing::{accepted, any_message};
 use carriers::Queue;
 use coin::WordCoin;
 use line::{advance, open_case};
-use memory::{CaseRecord, Memory};
+use memory::{BroadcastRecord, CaseRecord, Memory};
 use plan::{Draft, Line, Plan};
 use protocol::Refusal;
 
 const FIRST: CaseRecord = CaseRecord {
     round: 1,
-    ..UNOPENED
+    ..CaseRecord::UNOPENED
 };
 
 const LAST: CaseRecord = CaseRecord {
     round: 3,
-    ..UNOPENED
+    ..CaseRecord::UNOPENED
 };
 
 // Four processes and a case of one phase. Process 3 is faulty.
 fn line() -> Result<Line, Refusal> {
     let mut draft = Draft::new(Plan::new(4, 1, 0, 1, 1)?);
     draft.mark_faulty(3)?;
-    Ok(unopened(draft))
+    Ok(Line::from(draft))
 }
 
 // Process 0 has opened the case.
@@ -34,9 +34,14 @@ fn try_to_open(
     let mut places = [any_message()?; 4];
     let mut carrier = Queue::new(&mut places[0..free.min(4)]);
     let mut memory = Memory {
-        broadcasts: &mut [SILENT; 48],
+        broadcasts: &mut [BroadcastRecord::SILENT; 48],
         bodies: &mut [None; 384],
-        cases: &mut [FIRST, UNOPENED, UNOPENED, UNOPENED],
+        cases: &mut [
+            FIRST,
+            CaseRecord::UNOPENED,
+            CaseRecord::UNOPENED,
+            CaseRecord::UNOPENED,
+        ],
         serials: &mut [0; 4][0..serials.min(4)],
     };
     open_case(&line()?, &mut memory, &mut carrier, process, case, vote)
@@ -77,7 +82,7 @@ fn try_to_advance(
     let mut memory = Memory {
         broadcasts: &mut records,
         bodies: &mut [None; 384],
-        cases: &mut [FIRST, LAST, UNOPENED, UNOPENED],
+        cases: &mut [FIRST, LAST, CaseRecord::UNOPENED, CaseRecord::UNOPENED],
         serials: &mut [0; 4][0..serials.min(4)],
     };
     let coin = WordCoin::new(0);

@@ -1,9 +1,9 @@
-use crate::tests::playing::{SILENT, UNOPENED, any_message, decision};
+use crate::tests::playing::{any_message, decision};
 use carrier::is_idle;
 use carriers::Queue;
 use coin::WordCoin;
 use item::Tag;
-use memory::{Memory, Stage};
+use memory::{BroadcastRecord, CaseRecord, Memory};
 use plan::{Draft, Plan};
 use protocol::Side;
 use runs::{Answer, Turn, perform, run};
@@ -20,13 +20,6 @@ fn advance() -> Turn<Tag> {
     Turn::Advance {
         process: 0,
         case: 0,
-    }
-}
-
-fn body(stage: Stage) -> Option<u64> {
-    match stage {
-        Stage::Accepted(body) => Some(body),
-        _ => None,
     }
 }
 
@@ -63,9 +56,9 @@ fn a_run_is_a_list_of_turns(rt: HostRuntime) -> Result<(), Fail> {
     let mut places = [any_message()?; 3];
     let mut carrier = Queue::new(&mut places);
     let mut memory = Memory {
-        broadcasts: &mut [SILENT; 4],
+        broadcasts: &mut [BroadcastRecord::SILENT; 4],
         bodies: &mut [None; 8],
-        cases: &mut [UNOPENED],
+        cases: &mut [CaseRecord::UNOPENED],
         serials: &mut [9],
     };
     let draft = Draft::new(Plan::new(1, 0, 1, 1, 1)?);
@@ -77,7 +70,7 @@ fn a_run_is_a_list_of_turns(rt: HostRuntime) -> Result<(), Fail> {
     assert_eq!(rt; memory.next_serial(0), 1);
     assert_eq!(rt; memory.case_record(0).round, 3);
     for (place, expected) in [(0, 5), (1, 1), (2, 1), (3, 3)] {
-        assert_eq!(rt; body(memory.stage(place)), Some(expected));
+        assert_eq!(rt; memory.stage(place).accepted(), Some(expected));
     }
     let answer = perform(&line, &mut memory, &mut carrier, &coin, &advance())?;
     let Answer::Advanced(reached) = answer else {

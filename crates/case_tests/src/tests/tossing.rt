@@ -1,9 +1,9 @@
-use crate::tests::playing::{Hall, SILENT, UNOPENED, any_message};
+use crate::tests::playing::{Hall, any_message};
 use carrier::Carrier;
 use carriers::Queue;
 use coin::{Coin, DealerStrip, OwnStrip, WordCoin};
 use line::open_line;
-use memory::Memory;
+use memory::{BroadcastRecord, CaseRecord, Memory};
 use plan::{Draft, Plan};
 use protocol::Side;
 use std::process::Abort;
@@ -34,9 +34,9 @@ fn toss<C: Carrier, K: Coin>(
     side: Side,
 ) -> Result<(), Fail> {
     let mut memory = Memory {
-        broadcasts: &mut [SILENT; 96],
+        broadcasts: &mut [BroadcastRecord::SILENT; 96],
         bodies: &mut [None; 768],
-        cases: &mut [UNOPENED; 4],
+        cases: &mut [CaseRecord::UNOPENED; 4],
         serials: &mut [0; 4],
     };
     let draft = Draft::new(Plan::new(4, 1, 0, 1, 2)?);

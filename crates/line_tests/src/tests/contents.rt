@@ -23,12 +23,12 @@ impl<'h, 'm, 'c, 'p> Hall<'h, 'm, 'c, Pile<'p>> {
 fn what_lies_outside_the_plan_is_dropped(rt: HostRuntime) -> Result<(), Fail> {
     let mut places = [filler()?; 9];
     let memory = &mut Memory {
-        broadcasts: &mut [SILENT; 64],
+        broadcasts: &mut [BroadcastRecord::SILENT; 64],
         bodies: &mut [None; 512],
         cases: &mut [ODD_CASE; 4],
         serials: &mut [0; 4],
     };
-    let line = unopened(Draft::new(Plan::new(4, 1, 1, 1, 1)?));
+    let line = Line::from(Draft::new(Plan::new(4, 1, 1, 1, 1)?));
     let carrier = &mut Pile::new(&mut places);
     let mut hall = Hall::new(line, memory, carrier);
     let rows = [
@@ -85,9 +85,9 @@ const LIFE: [(u64, Step, u64, (u64, bool), usize); 20] = [
 #[test]
 fn repeats_and_latecomers_change_nothing(rt: HostRuntime) -> Result<(), Fail> {
     let mut places = [filler()?; 17];
-    let line = unopened(Draft::new(Plan::new(4, 1, 1, 0, 1)?));
+    let line = Line::from(Draft::new(Plan::new(4, 1, 1, 0, 1)?));
     let memory = &mut Memory {
-        broadcasts: &mut [SILENT; 16],
+        broadcasts: &mut [BroadcastRecord::SILENT; 16],
         bodies: &mut [None; 128],
         cases: &mut [],
         serials: &mut [0; 4],
@@ -126,7 +126,7 @@ const ODDITIES: [(Stage, Step, u64, (u64, bool), Option<Option<u64>>); 13] = [
 fn a_call_goes_by_what_it_finds(rt: HostRuntime) -> Result<(), Fail> {
     for (stage, step, body, expected, reading) in ODDITIES {
         let mut places = [filler()?; 9];
-        let line = unopened(Draft::new(Plan::new(4, 1, 1, 0, 1)?));
+        let line = Line::from(Draft::new(Plan::new(4, 1, 1, 0, 1)?));
         let memory = &mut Memory {
             broadcasts: &mut [BroadcastRecord { stage }; 16],
             bodies: &mut [Some(7); 128],
@@ -176,11 +176,11 @@ fn opening_clears_what_is_needed_and_no_more(rt: HostRuntime) -> Result<(), Fail
 // One record of 80 has the body 3: what process 2 keeps of the second item of process 3.
 #[test]
 fn reading_finds_the_record(rt: HostRuntime) -> Result<(), Fail> {
-    let mut records = [SILENT; 80];
+    let mut records = [BroadcastRecord::SILENT; 80];
     records[56] = BroadcastRecord {
         stage: Stage::Accepted(3),
     };
-    let line = unopened(draft_with_faulty(Plan::new(4, 1, 2, 1, 1)?, 3..4)?);
+    let line = Line::from(draft_with_faulty(Plan::new(4, 1, 2, 1, 1)?, 3..4)?);
     let memory = &mut Memory {
         broadcasts: &mut records,
         bodies: &mut [None; 640],

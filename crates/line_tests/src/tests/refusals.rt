@@ -23,7 +23,7 @@ fn refused<C: Carrier>(
 
 // Process 3 is faulty.
 fn line_of(plan: Plan) -> Result<Line, Refusal> {
-    Ok(unopened(draft_with_faulty(plan, 3..4)?))
+    Ok(Line::from(draft_with_faulty(plan, 3..4)?))
 }
 
 // A message waits, and the calls name a process outside the plan.
@@ -39,7 +39,7 @@ fn all_refuse<C: Carrier>(
     carrier.post(message)?;
     let (refusal, draft) = refused(Draft::new(plan), memory, carrier)?;
     assert_eq!(rt; refusal, opening);
-    let mut hall = Hall::new(unopened(draft), memory, carrier);
+    let mut hall = Hall::new(Line::from(draft), memory, carrier);
     assert_eq!(rt; hall.announce(4, &Tag::new(1)?), Err(others));
     assert_eq!(rt; hall.forge(message), Err(others));
     assert_eq!(rt; hall.deliver(4, 0), Err(others));
@@ -111,7 +111,7 @@ fn opening_waits_for_an_empty_carrier(rt: HostRuntime) -> Result<(), Fail> {
 #[test]
 fn announcing_takes_serials_and_room(rt: HostRuntime) -> Result<(), Fail> {
     let memory = &mut Memory {
-        broadcasts: &mut [SILENT; 32],
+        broadcasts: &mut [BroadcastRecord::SILENT; 32],
         bodies: &mut [None; 256],
         cases: &mut [],
         serials: &mut [0, 0, 1, 0],
@@ -148,7 +148,7 @@ fn forging_is_for_faulty_senders_within_the_plan(rt: HostRuntime) -> Result<(), 
     let mut places = [filler()?; 3];
     let line = line_of(Plan::new(4, 1, 1, 1, 1)?)?;
     let memory = &mut Memory {
-        broadcasts: &mut [SILENT; 64],
+        broadcasts: &mut [BroadcastRecord::SILENT; 64],
         bodies: &mut [None; 512],
         cases: &mut [ODD_CASE; 4],
         serials: &mut [0; 4],
@@ -215,7 +215,7 @@ fn delivering_wants_room_for_two_to_each(rt: HostRuntime) -> Result<(), Fail> {
         (10, Ok((8, true)), 2),
     ];
     let mut memory = Memory {
-        broadcasts: &mut [SILENT; 16],
+        broadcasts: &mut [BroadcastRecord::SILENT; 16],
         bodies: &mut [Some(7); 128],
         cases: &mut [],
         serials: &mut [0; 4],
@@ -247,7 +247,7 @@ fn announces_in<C: Carrier>(
 fn announcing_wants_room_for_one_to_each(rt: HostRuntime) -> Result<(), Fail> {
     let rows = [(0, Err(Refusal::NoRoom), 8), (1, Ok((0, 9)), 0)];
     let mut memory = Memory {
-        broadcasts: &mut [SILENT; 81],
+        broadcasts: &mut [BroadcastRecord::SILENT; 81],
         bodies: &mut [None; 1458],
         cases: &mut [],
         serials: &mut [0; 9],
