@@ -2,7 +2,7 @@ use crate::marks::Marks;
 use protocol::{Step, Subject};
 
 /// One form of a script, as written: its numbers are any below 2^64.
-#[derive(Drop)]
+#[derive(Clone, Copy)]
 pub enum Form {
     Line {
         counters: u64,

@@ -7,4 +7,4 @@ mod marks;
 mod writer;
 
 pub use forms::Form;
-pub use marks::Marks;
+pub use marks::{Full, Marks};

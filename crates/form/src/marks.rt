@@ -1,13 +1,14 @@
 ghost use Rattle.std.specs.Prelude.{◌≡◌, ◌↔◌, [], IsOk, IsTrue};
 ghost use Rattle.form.specs.Marks.{added, room_for};
 
-use arrayvec::{ArrayVec, CapacityError};
 use std::marker::Model;
 
 /// The marks of a line form, in the order written: at most 16.
-#[derive(Drop)]
+// Not a list of the library's: those are not `Copy`, and a form is.
+#[derive(Clone, Copy)]
 pub struct Marks {
-    list: ArrayVec<u64, 16>,
+    values: [u64; 16],
+    count: usize,
 }
 
 impl Model for Marks {
@@ -15,8 +16,20 @@ impl Model for Marks {
 
     ghost Value = { List ℕ };
 
-    ghost view = { λ m. m.list.items };
+    ghost use Rattle.form.specs.Padded.{listed, Padded, padded, padded_listed};
+
+    ghost view = { listed };
+
+    ghost invariant = { Padded };
+
+    ghost inverse = { padded };
+
+    ghost inverse_ok = { padded_listed };
 }
+
+/// There is no room for one mark more.
+#[derive(Clone, Copy, Debug, PartialEq, Eq)]
+pub struct Full;
 
 impl Marks {
     /// No marks.
@@ -24,22 +37,28 @@ impl Marks {
         ensures { result ≡ [] }
     {
         Marks {
-            list: ArrayVec::new(),
+            values: [0; 16],
+            count: 0,
         }
     }
 
     /// One mark more, if there is room for it.
-    pub fn push(&mut self, mark: u64) -> Result<(), CapacityError<u64>>
+    pub fn push(&mut self, mark: u64) -> Result<(), Full>
         ensures answer { IsOk result ↔ IsTrue (room_for self.old) }
         ensures after { self.new ≡ added self.old mark }
     {
-        self.list.try_push(mark)
+        if self.count == 16 {
+            return Err(Full);
+        }
+        self.values[self.count] = mark;
+        self.count += 1;
+        Ok(())
     }
 
     /// The marks.
     pub fn as_slice(&self) -> &[u64]
         ensures { result.now ≡ self.now }
     {
-        self.list.as_slice()
+        &self.values[..self.count]
     }
 }
