@@ -26,7 +26,9 @@ pub struct DealerStrip<'a> {
 fn side_at(bytes: &[u8], index: usize) -> Side
     ensures { result ≡ strip_side bytes.now index }
 {
-    bytes.get(index).map_or(Side::Keep, |byte| side_of(u64::from(*byte)))
+    bytes
+        .get(index)
+        .map_or(Side::Keep, |byte| side_of(u64::from(*byte)))
 }
 
 impl<'a> OwnStrip<'a> {
