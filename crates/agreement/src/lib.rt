@@ -7,30 +7,22 @@ ghost use Rattle.agreement.specs.Runs.{State};
 ghost use Rattle.agreement.specs.Broadcasts.{Weighed, Counted, Lasting, Happens};
 
 // Correct processes accept alike, and what a correct one told. Once nothing waits for them, all of them have accepted.
-pub fn broadcast_stands() -> u8
+pub fn broadcast_stands()
     ensures weighed { Weighed }
     ensures counted { Counted }
-{
-    0
-}
+{}
 
 // No turn takes back what was told or accepted.
-pub fn broadcast_lasts() -> u8
+pub fn broadcast_lasts()
     ensures { Lasting }
-{
-    0
-}
+{}
 
 // A lawful world has a run in which something is told and accepted.
-pub fn broadcast_happens() -> u8
+pub fn broadcast_happens()
     ensures { (st : State) × Happens st }
-{
-    0
-}
+{}
 
 // Counting processes is a weight, with any thresholds that meet the five facts.
-pub fn counting_serves() -> u8
+pub fn counting_serves()
     ensures { Counting }
-{
-    0
-}
+{}

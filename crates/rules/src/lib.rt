@@ -13,8 +13,6 @@ pub use answers::{Advanced, Announced, Delivered};
 
 // After every run, for every coin: agreement and validity; at rest everything is accepted alike and every case that all
 // opened has ended; a coin that shows what is forced decides.
-pub fn runs_keep_promises() -> u8
+pub fn runs_keep_promises()
     ensures { (line : Line) (capacity : ℕ) (coin : Coin) → Kept line capacity coin }
-{
-    0
-}
+{}
