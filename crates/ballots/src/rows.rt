@@ -9,7 +9,7 @@ ghost use Rattle.ballots.specs.Places.{body_at, ballots_at, covers, valid_at, Va
 use crate::allowing::{allowed_after, sift};
 use crate::counting::count;
 use crate::tallies::Allowed;
-use memory::{Memory, is_enough, place_of};
+use memory::{Memory, place_of};
 use plan::Plan;
 use protocol::{Ballot, Subject};
 use std::array;
@@ -55,7 +55,7 @@ fn is_covered(plan: &Plan, memory: &Memory, process: u64, case: u64, round: u64)
     ensures { result ≡ covers plan.now (held memory.now) process case round }
 {
     let rounds = 1..=3 * plan.phases();
-    process < plan.n() && case < plan.cases() && rounds.contains(&round) && is_enough(plan, memory)
+    process < plan.n() && case < plan.cases() && rounds.contains(&round) && memory.is_enough(plan)
 }
 
 // What a process has accepted in a case.

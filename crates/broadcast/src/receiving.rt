@@ -6,7 +6,7 @@ ghost use Rattle.broadcast.specs.Stages.{sends, turn, put};
 ghost use Rattle.broadcast.specs.Receiving.{outcome, received};
 
 use crate::reactions::Reaction;
-use memory::{BroadcastRecord, Memory, Place, Stage, is_enough, place_of};
+use memory::{BroadcastRecord, Memory, Place, Stage, place_of};
 use plan::{Plan, Thresholds};
 use protocol::{Message, Step};
 
@@ -14,7 +14,7 @@ use protocol::{Message, Step};
 pub fn receive(plan: &Plan, memory: &mut Memory, process: u64, message: &Message) -> Reaction
     ensures { outcome (held memory.new) result ≡ received plan.now process message.now (held memory.old) }
 {
-    if message.sender() >= plan.n() || !is_enough(plan, memory) {
+    if message.sender() >= plan.n() || !memory.is_enough(plan) {
         return Reaction::NOTHING;
     }
     let Some(place) = place_of(plan, process, message.subject()) else {

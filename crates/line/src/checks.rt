@@ -7,7 +7,7 @@ ghost use Rattle.rules.specs.Promises.{Correct};
 ghost use Rattle.line.specs.Checks.{Answers, process_tests, correct_tests, RoomForAll};
 
 use carrier::Carrier;
-use memory::{Memory, case_place, is_enough};
+use memory::{Memory, case_place};
 use plan::Line;
 use protocol::Refusal;
 
@@ -17,7 +17,7 @@ pub fn check_process(line: &Line, memory: &Memory, process: u64) -> Result<(), R
     ensures within { OnOk result (process < line.now.plan.n) }
 {
     let plan = line.plan();
-    if !is_enough(&plan, memory) {
+    if !memory.is_enough(&plan) {
         return Err(Refusal::MemoryTooSmall);
     }
     if process >= plan.n() {

@@ -3,7 +3,7 @@ ghost use Rattle.memory.specs.Contents.{held};
 ghost use Rattle.line.specs.Opening.{Opens, Promised};
 
 use carrier::{Carrier, is_idle};
-use memory::{Memory, clear, is_enough};
+use memory::Memory;
 use plan::{Draft, Line};
 use protocol::Refusal;
 
@@ -17,12 +17,12 @@ pub fn open_line<C: Carrier>(
     ensures promise { Promised (C.Carrier.capacity carrier.now) result (held memory.new) }
 {
     let plan = draft.plan();
-    if !is_enough(&plan, memory) {
+    if !memory.is_enough(&plan) {
         return Err((Refusal::MemoryTooSmall, draft));
     }
     if !is_idle(carrier) {
         return Err((Refusal::MessageWaiting, draft));
     }
-    clear(&plan, memory);
+    memory.clear(&plan);
     Ok(Line::from(draft))
 }

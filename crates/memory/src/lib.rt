@@ -6,7 +6,6 @@ pub mod places;
 pub mod records;
 
 pub use memories::Memory;
-pub use memories::methods::{clear, is_enough};
 pub use places::Place;
 pub use places::slots::{case_place, is_within, place_of};
 pub use records::{BroadcastRecord, CaseRecord, Decision, Slip, Stage};

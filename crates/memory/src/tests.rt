@@ -1,5 +1,4 @@
 use crate::memories::Memory;
-use crate::memories::methods::{clear, is_enough};
 use crate::places::slots::{case_place, place_of};
 use crate::records::{BroadcastRecord, CaseRecord, Slip, Stage};
 use plan::Plan;
@@ -77,7 +76,7 @@ fn each_part_may_be_too_short(rt: HostRuntime) -> Result<(), Fail> {
             cases: &mut [OPENED; 1][0..cases.min(1)],
             serials: &mut [0; 1][0..serials.min(1)],
         };
-        assert_eq!(rt; is_enough(&plan, &memory), expected);
+        assert_eq!(rt; memory.is_enough(&plan), expected);
     }
     Ok(())
 }
@@ -91,7 +90,7 @@ fn clearing_ends_where_the_need_ends(rt: HostRuntime) -> Result<(), Fail> {
         cases: &mut [OPENED; 2],
         serials: &mut [3; 2],
     };
-    clear(&plan, &mut memory);
+    memory.clear(&plan);
     assert_eq!(rt; memory.stage(3), Stage::Silent);
     assert_eq!(rt; memory.stage(4), Stage::Readied);
     assert!(rt; memory.bodies.len() == 9);

@@ -1,7 +1,7 @@
 use Rattle.std.proofs.Common.{arith, rules}
 use Rattle.std.proofs.lemmas.Grind.{common_steps}
 use Rattle.memory.proofs.Wiping.{wiped_none, wiped_more, wiped_front}
-use Rattle.memory.proofs.memories.methods.wipe.Goals as goal
+use Rattle.memory.proofs.memories.wipe.Goals as goal
 
 pub loop-place-init : goal.loop-place-init
 loop-place-init g c = search (rules, wiped_none)
