@@ -1,18 +1,13 @@
 -- How many messages wait for a process. Assumes nothing.
-use Rattle.std.proofs.Common.{◌≡◌, ℕ, ◌+◌, ◌<◌, ◌≤◌, ◌==◌, Bool, true, List, [], ◌∷◌, length, get_or, refl, sym, ap, ◌∙◌, arith}
+use Rattle.std.proofs.Common.{◌≡◌, ℕ, ◌+◌, ◌<◌, ◌==◌, Bool, true, List, [], ◌∷◌, length, get_or, refl, sym, ap, ◌∙◌, arith}
 use Rattle.std.specs.List.{list_all, range_with_len}
 use Rattle.std.proofs.lemmas.Bool.{eq-eqb, ne_eqb, cond-true}
 use Rattle.std.proofs.lemmas.List.Folds.{list_all_at}
 use Rattle.std.proofs.lemmas.List.FromFn.{get_or-range_with_len}
 use Rattle.protocol.specs.declared.messages.Message.{Message}
 use Rattle.protocol.specs.Bags.{count}
-use Rattle.protocol.proofs.Bags.{count_none, count_cons}
-use Rattle.protocol.proofs.Counting.{at_most_one}
+use Rattle.protocol.proofs.Bags.{count_cons}
 use Rattle.carrier.specs.Waiting.{addressed, capped, waiting_for}
-
-pub count_le_length : (p : Message → Bool) (ms : List Message) → count p ms ≤ length ms
-count_le_length p [] = omega (arith, count_none p)
-count_le_length p (m ∷ ms) = omega (arith, count_cons p m ms, at_most_one (p m), count_le_length p ms)
 
 pub counted : (p : Message → Bool) (m : Message) (ms : List Message) → p m ≡ true → count p (m ∷ ms) ≡ 1 + count p ms
 counted p m ms h = count_cons p m ms ∙ ap (λ (n : ℕ). n + count p ms) (cond-true (p m) 1 0 h)

@@ -1,5 +1,5 @@
 // Acting on a form.
-ghost use Rattle.std.specs.Prelude.{◌≡◌, None as Closed};
+ghost use Rattle.std.specs.Prelude.{◌≡◌};
 ghost use Rattle.memory.specs.Contents.{held};
 
 use crate::opening::open;
@@ -16,25 +16,13 @@ use runs::perform;
 // Has a line once one is open.
 #[derive(Drop)]
 pub struct Desk<'a> {
-    line: Option<Line>,
-    memory: Memory<'a>,
-    basket: Basket<'a>,
+    pub line: Option<Line>,
+    pub memory: Memory<'a>,
+    pub basket: Basket<'a>,
 }
 
-impl<'a> Desk<'a> {
-    ghost use Rattle.desk.specs.Desk.{waiting_in, places_of, desk, state, places, done, opens_at, turns_at, acts};
-
-    // No line is open.
-    pub fn new(memory: Memory<'a>, basket: Basket<'a>) -> Desk<'a>
-        ensures state { state result ≡ desk Closed (held memory.entry) (waiting_in basket.entry) }
-        ensures places { places result ≡ places_of basket.entry }
-    {
-        Desk {
-            line: None,
-            memory,
-            basket,
-        }
-    }
+impl Desk<'_> {
+    ghost use Rattle.desk.specs.Desk.{waiting_in, state, places, done, opens_at, turns_at, acts};
 
     // Before a line is open only a form for one is in its place, and from then on only turns are.
     pub fn act_on(&mut self, form: Form) -> Result<Said, Refusal>

@@ -4,7 +4,7 @@ ghost use Rattle.grammar.specs.declared.fault.FormFault.TheVariants.{Token};
 use token::{Place, TokenFault};
 
 /// Why a line is no form. The token's fault is carried whole.
-#[derive(Clone, Copy)]
+#[derive(Clone, Copy, Debug, PartialEq, Eq)]
 pub enum FormFault {
     Token(TokenFault),
     /// A lawful token that no form has here, or the end of the line where a form goes on.

@@ -14,7 +14,8 @@ use memory::{CaseRecord, Memory};
 use plan::Line;
 use protocol::{Refusal, Step, Subject};
 
-// A correct process votes in the first round of a case: 0 is keep, 1 release. Answers how many messages were posted.
+// A correct process votes in the first round of a case: 0 is keep, 1 release. The vote is a number, as a script can hold it, and
+// any other is refused. Answers how many messages were posted.
 pub fn open_case<C: Carrier>(
     line: &Line,
     memory: &mut Memory,

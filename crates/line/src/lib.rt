@@ -1,4 +1,5 @@
-// Opening a line, and the five turns on it.
+// Opening a line, and the five turns on it. Line, memory and carrier are the caller's, and each call is handed them one by one:
+// reading and slips get only the first two.
 #![tactic(auto)]
 
 pub mod advancing;

@@ -1,4 +1,4 @@
-// Where memory keeps what one process knows of one subject.
+// Where memory keeps what one process knows of one subject. These are indices: the slices are lent, and written one at a time.
 pub mod slots;
 
 #[derive(Clone, Copy, Debug, PartialEq, Eq)]

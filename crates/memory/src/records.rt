@@ -54,7 +54,8 @@ pub struct Decision {
     pub phase: u8,
 }
 
-// What a process keeps of one case. In round 0 the case is not opened, above its last round it has ended.
+// What a process keeps of one case. In round 0 the case is not opened, above its last round it has ended: numbers, since a memory
+// that is handed in may hold any.
 #[derive(Clone, Copy, Debug, PartialEq, Eq)]
 pub struct CaseRecord {
     pub round: u8,

@@ -47,18 +47,3 @@ planned_not n t serials cases phases h = go (legal n t serials cases phases) ref
   go : (b : Bool) (e : legal n t serials cases phases ≡ b) → made_if n t serials cases phases b e ≡ Err PlanOutOfRange
   go true e = absurd (true≢false (sym e ∙ h))
   go false e = refl
-
--- the numbers of a plan that was made are those that it was made of
-pub record Numbers (plan : Plan) (n t serials cases phases : ℕ) : Type 0 where
-  pub n_is : plan.n ≡ n
-  pub t_is : plan.t ≡ t
-  pub serials_is : plan.serials ≡ serials
-  pub cases_is : plan.cases ≡ cases
-  pub phases_is : plan.phases ≡ phases
-
-pub planned_numbers : (n t serials cases phases : ℕ) (plan : Plan) → planned n t serials cases phases ≡ Ok plan → Numbers plan n t serials cases phases
-unfolding planned
-planned_numbers n t serials cases phases plan h = go (legal n t serials cases phases) refl h where
-  go : (b : Bool) (e : legal n t serials cases phases ≡ b) → made_if n t serials cases phases b e ≡ Ok plan → Numbers plan n t serials cases phases
-  go true e made = record { n_is = cc; t_is = cc; serials_is = cc; cases_is = cc; phases_is = cc }
-  go false e made = let z : ◌≡◌ {A = ℕ} 0 1 = cc in absurd (omega arith)

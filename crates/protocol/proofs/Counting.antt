@@ -1,5 +1,5 @@
 -- Laws of counting below a number. Assumes nothing.
-use Rattle.std.proofs.Common.{◌≡◌, ℕ, zero, suc, ◌+◌, ◌<◌, ◌≤◌, Bool, true, false, cond, refl, ap, ◌∙◌, add-one, arith}
+use Rattle.std.proofs.Common.{◌≡◌, ℕ, zero, suc, ◌+◌, ◌<◌, ◌≤◌, Bool, true, false, cond, refl, arith}
 use Rattle.protocol.specs.Counting.{below}
 
 pub below_none : (p : ℕ → Bool) → below 0 p ≡ 0
@@ -9,10 +9,6 @@ below_none p = refl
 pub below_suc : (n : ℕ) (p : ℕ → Bool) → below (suc n) p ≡ cond (p n) 1 0 + below n p
 unfolding below
 below_suc n p = refl
-
--- a loop's step
-pub below_more : (n : ℕ) (p : ℕ → Bool) → below (n + 1) p ≡ cond (p n) 1 0 + below n p
-below_more n p = ap (λ (k : ℕ). below k p) (add-one n) ∙ below_suc n p
 
 pub at_most_one : (b : Bool) → cond b 1 0 ≤ 1
 at_most_one true = omega arith

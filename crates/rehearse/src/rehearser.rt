@@ -57,7 +57,11 @@ fn rehearse_anew(text: Text, input: &[u8]) -> Result<Text, AllocError>
         serials: &mut [0; 5],
     };
     let mut places = [message; 400];
-    let mut desk = Desk::new(memory, Basket::new(&mut places));
+    let mut desk = Desk {
+        line: None,
+        memory,
+        basket: Basket::new(&mut places),
+    };
     rehearse_lines(text, input, &mut desk)
 }
 

@@ -10,7 +10,7 @@ use text::Text;
 use token::Place;
 
 /// Why a script, or a line of it, gets no other answer. The form's fault is carried whole.
-#[derive(Clone, Copy)]
+#[derive(Clone, Copy, Debug, PartialEq, Eq)]
 pub enum ScriptFault {
     Form(FormFault),
     Refused(Refusal),

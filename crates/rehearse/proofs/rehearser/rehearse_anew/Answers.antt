@@ -11,5 +11,4 @@ pub returns : goal.returns
 unfolding fresh
 returns c =
     let basket = c.new-2.ensures in
-    let start = c.new-desk.ensures in
-    IfOk-weaker c.rehearse_lines.result _ _ (λ t e. e ∙ from_start (shown c.args.text) c.args.input.now _ _ (start.places ∙ (basket.room ∙ length-replicate 400 c.in-Ok.message)) (start.state ∙ ap (desk None _) basket.none)) c.rehearse_lines.ensures
+    IfOk-weaker c.rehearse_lines.result _ _ (λ t e. e ∙ from_start (shown c.args.text) c.args.input.now _ _ (basket.room ∙ length-replicate 400 c.in-Ok.message) (ap (desk None _) basket.none)) c.rehearse_lines.ensures
