@@ -14,7 +14,8 @@ pub trait Coin {
         ensures { result ≡ shows self.now process case phase };
 }
 
-// A coin that shows every process the same side.
+// A coin that shows every process the same side. Each has a `toss` of its own that passes on to the other: a shared coin is given as a
+// coin that answers without a process too.
 pub trait SharedCoin: Coin {
     fn toss_for_all(&self, case: u8, phase: u8) -> Side
         ensures answer { (process : ℕ) → result ≡ Self.Coin.shows self.now process case phase }

@@ -1,4 +1,4 @@
-// What the tests share.
+// What the tests share. Memories stand in each test: their sizes and contents are what it is about.
 use carrier::Carrier;
 use item::Item;
 use line::{announce, deliver, forge, open_line};

@@ -8,6 +8,7 @@ use std::io::{Read, Write};
 /// One byte more than a script may have, so that a longer one shows.
 const ENOUGH: u64 = 4097;
 
+// As the main of lint: a helper would be handed the call and the runtime, and be as long.
 fn main(rt: HostRuntime) -> io::Result<()> {
     let heap = rt.alloc();
     let mut input = Vec::new(heap);

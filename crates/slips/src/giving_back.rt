@@ -10,7 +10,8 @@ use memory::{CaseRecord, Memory, Slip};
 use plan::Line;
 use protocol::Refusal;
 
-// The item was handed over for the slip. No other slip can be issued for the case.
+// Two calls and not one with a state: they are what a clerk does. The item was handed over for the slip. No other slip can be issued
+// for the case.
 pub fn hand_over(
     line: &Line,
     memory: &mut Memory,

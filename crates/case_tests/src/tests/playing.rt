@@ -23,6 +23,7 @@ pub type Lie = (u64, Step, [u64; 4]);
 // How many processes may be faulty, what each process votes, and the side that is decided, where it is sure.
 pub type Row<'v> = (u64, &'v [Option<u64>], Option<Side>);
 
+// Ballots stand as numbers in the tests: a table cannot call `number`.
 pub fn accepted(body: u64) -> BroadcastRecord {
     BroadcastRecord {
         stage: Stage::Accepted(body),
