@@ -1,6 +1,5 @@
 // Writing an answer.
-ghost use Rattle.std.specs.Prelude.{◌≡◌, ◌++◌, IfOk};
-ghost use Rattle.text.specs.Shown.{shown};
+ghost use Rattle.text.specs.Shown.{Adds};
 ghost use Rattle.desk.specs.Wording.{answer_text, said_text};
 
 use crate::said::Said;
@@ -9,7 +8,7 @@ use std::alloc::AllocError;
 use text::Text;
 
 fn put_answer(text: Text, answer: Answer) -> Result<Text, AllocError>
-    ensures { IfOk result (λ t. shown t ≡ shown text ++ answer_text answer) }
+    ensures { Adds result text (answer_text answer) }
 {
     match answer {
         Answer::Announced(announced) => text
@@ -31,7 +30,7 @@ fn put_answer(text: Text, answer: Answer) -> Result<Text, AllocError>
 impl Said {
     // Adds the answer's text to a text.
     pub fn write_to(self, text: Text) -> Result<Text, AllocError>
-        ensures { IfOk result (λ t. shown t ≡ shown text ++ said_text self) }
+        ensures { Adds result text (said_text self) }
     {
         match self {
             Said::Opened => text.put(b"(opened)"),

@@ -1,5 +1,5 @@
 -- One token of a line, and what the grammar's machine does with it.
-use Rattle.std.proofs.Common.{◌≡◌, ℕ, Bool, true, false, cond, ◌&&◌, List, [], ◌∷◌, length, Some, None, Ok, Err, Option, Result, sym, refl, ap, ◌∙◌, arith}
+use Rattle.std.proofs.Common.{◌≡◌, ℕ, Bool, true, false, cond, ◌&&◌, List, [], ◌∷◌, length, Some, None, Ok, Err, Option, Result, sym, refl, ap, ◌∙◌, subst, arith}
 use Rattle.std.specs.Option.{ok_or}
 use Rattle.token.specs.declared.cursor.Cursor.{Cursor}
 use Rattle.token.specs.declared.fault.Place.{Place}
@@ -7,6 +7,7 @@ use Rattle.token.specs.declared.fault.TokenFault.{TokenFault}
 use Rattle.token.specs.declared.lex.Token.{Token as Lexeme}
 use Rattle.token.specs.Scan.{left, here, onward, scanned, spelled, Apt, taken, remaining}
 use Rattle.token.specs.Tokens.{behind, lawful, spelling}
+use Rattle.grammar.specs.declared.fault.FormFault.{FormFault}
 use Rattle.grammar.specs.declared.fault.FormFault.TheVariants.{Token, Unexpected}
 use Rattle.form.specs.declared.forms.Form.{Form}
 use Rattle.grammar.specs.Grammar.{Shape, done, next, run}
@@ -69,11 +70,16 @@ end_some : (at : Place) (ps : List (List ℕ)) (f : Form) (q : List ℕ) → Ok 
 unfolding run
 end_some at ps f q e = ap (run (done f) at) (got_some at ps q e).0 ∙ ap (λ b. Err (cond b (Unexpected at) (Token (record { place = at })))) (got_some at ps q e).1
 
--- the same of a cursor: o is what its next token was
-pub pulled : (c d : Cursor) (o : Option Lexeme) (at : Place) → spelled (Ok o) ≡ scanned (here c) (left c) → Apt (Ok o) → here d ≡ onward (here c) (taken (Ok o)) → left d ≡ remaining (Ok o) (left c) → at ≡ here c → Pulled c d (ok_or o (Unexpected at))
-pulled c d None at value kind place tokens is = λ fits then. pull_none (here c) (left c) fits then value ∙ ap (λ p. Err (Unexpected p)) (sym is)
-pulled c d (Some t) at value kind place tokens is =
-    (kind, λ fits then. pull_some (here c) (left c) (spelling t) fits then value ∙ ap (λ x. cond (fits (spelling t)) x (Err (Unexpected (here c)))) (λ i. run (then (spelling t)) (sym place i) (sym tokens i)))
+-- the same of a cursor: o is what its next token was, and a token is told with its place
+pub pulled : (c d : Cursor) (o : Option Lexeme) (at : Place) (t : Lexeme) → spelled (Ok o) ≡ scanned (here c) (left c) → Apt (Ok o) → here d ≡ onward (here c) (taken (Ok o)) → left d ≡ remaining (Ok o) (left c) → at ≡ here c → ok_or o (Unexpected at) ≡ Ok t → Pulled c d (Ok (record { token = t; place = at }))
+pulled c d None at t value kind place tokens is h = absurd (let z : ◌≡◌ {A = ℕ} 0 1 = cc in omega arith)
+pulled c d (Some u) at t value kind place tokens is h =
+    let same : u ≡ t = cc in
+    subst (λ x. Pulled c d (Ok (record { token = x; place = at }))) same (is, (kind, λ fits then. pull_some (here c) (left c) (spelling u) fits then value ∙ (λ i. cond (fits (spelling u)) (run (then (spelling u)) (sym place i) (sym tokens i)) (Err (Unexpected (sym is i))))))
+
+pub missed : (c : Cursor) (o : Option Lexeme) (at : Place) (e : FormFault) → spelled (Ok o) ≡ scanned (here c) (left c) → at ≡ here c → ok_or o (Unexpected at) ≡ Err e → (fits : List ℕ → Bool) (then : List ℕ → Shape) → run (next fits then) (here c) (left c) ≡ Err e
+missed c None at e value is h = let same : Unexpected at ≡ e = cc in λ fits then. pull_none (here c) (left c) fits then value ∙ (ap (λ p. Err (Unexpected p)) (sym is) ∙ ap Err same)
+missed c (Some u) at e value is h = absurd (let z : ◌≡◌ {A = ℕ} 0 1 = cc in omega arith)
 
 after_none : (c : Cursor) (o : Option Lexeme) → o ≡ None → spelled (Ok o) ≡ scanned (here c) (left c) → Ok None ≡ scanned (here c) (left c)
 after_none c None e value = value
