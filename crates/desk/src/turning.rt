@@ -1,12 +1,12 @@
 // The turn that a form asks for.
 ghost use Rattle.std.specs.Prelude.{◌≡◌};
 ghost use Rattle.item.specs.Tags.{tagged};
-ghost use Rattle.protocol.specs.Messages.{made};
-ghost use Rattle.desk.specs.Desk.{announcing as announced, forging as forged, asks, asking};
+ghost use Rattle.form.specs.declared.forms.Form.TheVariants.{Forge};
+ghost use Rattle.desk.specs.Desk.{announcing as announced, asks, asking};
 
-use form::Form;
+use form::{ForgeForm, Form};
 use item::Tag;
-use protocol::{Message, Refusal, Step, Subject};
+use protocol::{Message, Refusal};
 use runs::Turn;
 
 fn announcing(process: u64, tag: u64) -> Result<Turn<Tag>, Refusal>
@@ -16,16 +16,10 @@ fn announcing(process: u64, tag: u64) -> Result<Turn<Tag>, Refusal>
     Ok(Turn::Announce { process, value })
 }
 
-fn forging(
-    from: u64,
-    to: u64,
-    step: Step,
-    subject: Subject,
-    body: u64,
-) -> Result<Turn<Tag>, Refusal>
-    ensures { asking result ≡ forged (made from to step subject body) }
+fn forging(forge: ForgeForm) -> Result<Turn<Tag>, Refusal>
+    ensures { asking result ≡ asks (Forge forge) }
 {
-    let message = Message::new(from, to, step, subject, body)?;
+    let message = Message::new(forge.from, forge.to, forge.step, forge.subject, forge.body)?;
     Ok(Turn::Forge { message })
 }
 
@@ -34,7 +28,7 @@ pub(crate) fn turn_of(form: Form) -> Result<Turn<Tag>, Refusal>
     ensures { asking result ≡ asks form }
 {
     match form {
-        Form::Line { .. } => Err(Refusal::LineOutOfPlace),
+        Form::Line(_) => Err(Refusal::LineOutOfPlace),
         Form::Announce { counter, tag } => announcing(counter, tag),
         Form::Open {
             counter,
@@ -45,13 +39,7 @@ pub(crate) fn turn_of(form: Form) -> Result<Turn<Tag>, Refusal>
             case,
             vote,
         }),
-        Form::Forge {
-            from,
-            to,
-            step,
-            subject,
-            body,
-        } => forging(from, to, step, subject, body),
+        Form::Forge(forge) => forging(forge),
         Form::Deliver { counter, pick } => Ok(Turn::Deliver {
             process: counter,
             pick,

@@ -18,9 +18,7 @@ pub fn pull<'a>(cursor: &mut Cursor<'a>) -> Result<Found<'a>, FormFault>
     ensures { Pulled cursor.old cursor.new result }
 {
     let place = cursor.place();
-    let token = cursor
-        .next_token()?
-        .ok_or(FormFault::Unexpected(place))?;
+    let token = cursor.next_token()?.ok_or(FormFault::Unexpected(place))?;
     Ok(Found { token, place })
 }
 
