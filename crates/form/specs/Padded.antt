@@ -1,7 +1,7 @@
 -- The places of marks: the marks in front, and zeros behind them. Assumes nothing.
 use Rattle.std.specs.Prelude.{◌≡◌, ℕ, ◌-◌, ◌≤◌, List, ◌++◌, length, take, replicate}
 use Rattle.form.specs.declared.marks.Marks.TheInside.{Inside}
-use Rattle.std.proofs.Common.{sym, refl, ap, ◌∙◌, arith, length-take}
+use Rattle.std.proofs.Common.{sym, ◌∙◌, arith, length-take}
 
 abbrev pub listed : Inside → List ℕ
 listed m = take m.count m.values

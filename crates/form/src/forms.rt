@@ -7,7 +7,7 @@ use std::alloc::AllocError;
 use text::Text;
 
 /// One form of a script, as written: its numbers are any below 2^64.
-#[derive(Clone, Copy)]
+#[derive(Clone, Copy, Debug, PartialEq, Eq)]
 pub enum Form {
     Line(LineForm),
     Announce { counter: u64, tag: u64 },
@@ -18,7 +18,7 @@ pub enum Form {
 }
 
 /// A line is opened: so many processes, so many faulty ones tolerated, and these marked.
-#[derive(Clone, Copy)]
+#[derive(Clone, Copy, Debug, PartialEq, Eq)]
 pub struct LineForm {
     pub counters: u64,
     pub tolerate: u64,

@@ -5,7 +5,7 @@ use std::marker::Model;
 
 /// The marks of a line form, in the order written: at most 16.
 // Not a list of the library's: those are not `Copy`, and a form is.
-#[derive(Clone, Copy)]
+#[derive(Clone, Copy, Debug, PartialEq, Eq)]
 pub struct Marks {
     values: [u64; 16],
     count: usize,

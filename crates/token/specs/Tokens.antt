@@ -1,6 +1,6 @@
 -- How a line of a script is cut into tokens, and which tokens are lawful.
 use Rattle.std.specs.Prelude.{◌≡◌, ℕ, suc, ◌+◌, ◌-◌, ◌*◌, ◌^◌, ◌≤◌, Bool, true, false, cond, not, ◌&&◌, ◌||◌, List, [], ◌∷◌, length, drop, Some, None, Option, ◌==◌, nat_lt, slice_index}
-use Rattle.std.specs.List.{fold}
+use Rattle.std.specs.List.{fold, prefix_len}
 use Rattle.std.specs.Char.{is_ascii_lowercase, is_ascii_digit}
 use Rattle.token.specs.declared.lex.Token.{Token}
 use Rattle.token.specs.declared.lex.Token.TheVariants.{Open, Close, Space, Word, Number}
@@ -32,8 +32,7 @@ pieces (b ∷ bs) = before b (pieces bs)
 
 -- how many bytes at the front go on a token that b is in
 abbrev pub running : ℕ → List ℕ → ℕ
-running b [] = 0
-running b (c ∷ cs) = cond (joins b c) (suc (running b cs)) 0
+running b bs = prefix_len (joins b) bs
 
 -- the length of a text's first token
 abbrev pub spanning : List ℕ → ℕ
