@@ -7,7 +7,9 @@ use Rattle.protocol.specs.declared.votes.Side.{Side}
 use Rattle.protocol.specs.declared.votes.Side.TheVariants as side
 use Rattle.protocol.specs.declared.votes.Ballot.{Ballot}
 use Rattle.protocol.specs.declared.votes.Ballot.TheVariants.{Keep, Release, ProposeKeep, ProposeRelease, Open}
-use Rattle.consensus.specs.Rounds.{Kind, First, Second, Third, ahead, Allows}
+use Rattle.protocol.specs.declared.votes.Kind.{Kind}
+use Rattle.protocol.specs.declared.votes.Kind.TheVariants.{First, Second, Third}
+use Rattle.consensus.specs.Rounds.{ahead, Allows}
 use Rattle.ballots.specs.Tallies.{amount}
 use Rattle.ballots.proofs.Counts.{total}
 use Rattle.ballots.specs.Votes.{after, takes}

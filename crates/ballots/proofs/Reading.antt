@@ -7,7 +7,8 @@ use Rattle.protocol.specs.declared.votes.Ballot.{Ballot}
 use Rattle.plan.specs.declared.plans.Plan.{Plan}
 use Rattle.memory.specs.Contents.{Held}
 use Rattle.memory.specs.Places.{enough, within}
-use Rattle.consensus.specs.Rounds.{Accepted, kind}
+use Rattle.protocol.specs.Phases.{kind}
+use Rattle.consensus.specs.Rounds.{Accepted}
 use Rattle.consensus.specs.Validity.{Valid}
 use Rattle.ballots.specs.Places.{body_at, ballots_at, covers, valid_at, ValidRow}
 use Rattle.ballots.specs.Tallies.{cell, Holds, counts}

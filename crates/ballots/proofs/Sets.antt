@@ -7,7 +7,8 @@ use Rattle.protocol.specs.Numbers.{ballot_number}
 use Rattle.protocol.specs.declared.votes.Ballot.{Ballot}
 use Rattle.protocol.specs.declared.votes.Ballot.TheVariants.{Keep, Release, ProposeKeep, ProposeRelease, Open}
 use Rattle.protocol.proofs.Counting.{below_alike}
-use Rattle.consensus.specs.Rounds.{Accepted, kind, tally, Allows}
+use Rattle.protocol.specs.Phases.{kind}
+use Rattle.consensus.specs.Rounds.{Accepted, tally, Allows}
 use Rattle.consensus.specs.Validity.{Valid, Quorum, lowest}
 use Rattle.consensus.proofs.Advancing.{lowest_size}
 use Rattle.consensus.proofs.Tallies.{held}

@@ -3,6 +3,9 @@ ghost use Rattle.std.specs.Prelude.{◌≡◌};
 
 use protocol::Ballot;
 
+// The ballots of a round by originator, none where a process has no valid one.
+pub type RoundBallots = [Option<Ballot>; 16];
+
 // One thing of each ballot.
 #[derive(Clone, Copy, Debug, PartialEq, Eq)]
 pub struct ByBallot<T> {

@@ -11,7 +11,8 @@ use Rattle.memory.proofs.Counting.{count_places}
 use Rattle.memory.specs.Contents.{Held, case_at}
 use Rattle.memory.specs.declared.records.CaseRecord.{CaseRecord}
 use Rattle.memory.specs.Places.{case_place, case_place_of}
-use Rattle.consensus.specs.Rounds.{Accepted, kind}
+use Rattle.protocol.specs.Phases.{kind}
+use Rattle.consensus.specs.Rounds.{Accepted}
 use Rattle.consensus.specs.Validity.{Valid, Quorum, lowest}
 use Rattle.consensus.proofs.Advancing.{advances}
 use Rattle.ballots.specs.Places.{ballots_at, covers, valid_at}

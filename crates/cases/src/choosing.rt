@@ -7,7 +7,7 @@ ghost use Rattle.cases.specs.Steps.{stands, step_at, Law};
 
 use crate::saying::step_by;
 use crate::steps::Step;
-use ballots::{count, valid_ballots};
+use ballots::{RoundBallots, count, valid_ballots};
 use memory::{Memory, case_place};
 use plan::Plan;
 use protocol::Ballot;
@@ -45,7 +45,7 @@ fn count_all(row: &[Option<Ballot>]) -> usize
 }
 
 // The first m ballots of a row.
-fn choose_lowest(row: &[Option<Ballot>; 16], m: usize) -> [Option<Ballot>; 16]
+fn choose_lowest(row: &RoundBallots, m: usize) -> RoundBallots
     ensures { Holds (only (lowest m (stands (cell row.now))) (cell row.now)) result }
 {
     array::from_fn(|k| row[k].filter(|_| count_all(&row[..k]) < m))

@@ -19,7 +19,9 @@ use Rattle.agreement.specs.Runs.{State, start}
 use Rattle.agreement.specs.Broadcasts as broadcasts
 use Rattle.agreement.proofs.Counts.{counted_lawful}
 use Rattle.agreement.proofs.Theorem as theorem
-use Rattle.consensus.specs.Rounds.{Accepted, Third, kind}
+use Rattle.protocol.specs.declared.votes.Kind.TheVariants.{Third}
+use Rattle.protocol.specs.Phases.{kind}
+use Rattle.consensus.specs.Rounds.{Accepted}
 use Rattle.consensus.specs.Validity.{Quorum, Part, Resilient}
 use Rattle.consensus.specs.Accounts.{Account, Outcomes}
 use Rattle.consensus.proofs.Accounts.{outcomes}

@@ -1,6 +1,6 @@
 use Rattle.std.proofs.Common.{◌≡◌, ◌-◌, true, ap, ◌∙◌, arith}
 use Rattle.memory.specs.Contents.{held}
-use Rattle.consensus.specs.Rounds.{kind}
+use Rattle.protocol.specs.Phases.{kind}
 use Rattle.ballots.specs.Places.{covers}
 use Rattle.ballots.specs.Votes.{after}
 use Rattle.ballots.proofs.Reading.{first_row, next_row, last_row, valid_row, covered}
