@@ -2,6 +2,7 @@
 use Rattle.std.proofs.Common.{◌≡◌, ℕ, zero, suc, Bool, true, false, Some, sym, refl, ap, ◌∙◌, subst}
 use Rattle.protocol.specs.Counting.{below}
 use Rattle.protocol.specs.Numbers.{ballot_number, vote}
+use Rattle.protocol.proofs.Counting.{below_zero}
 use Rattle.protocol.specs.declared.votes.Side.{Side}
 use Rattle.protocol.specs.declared.votes.Side.TheVariants as side
 use Rattle.protocol.specs.declared.votes.Ballot.{Ballot}
@@ -16,7 +17,6 @@ use Rattle.consensus.proofs.Sides as sides
 use Rattle.ballots.specs.Tallies.{says, counts}
 use Rattle.ballots.specs.Votes.{after, beginning, takes, sifted, votes, Exactly}
 use Rattle.ballots.specs.declared.tallies.ByBallot.{ByBallot}
-use Rattle.ballots.proofs.Counts.{below_zero}
 use Rattle.ballots.proofs.Draws.{OfKind, drawn, taken}
 use Rattle.ballots.proofs.Sets.{to_draw, from_draw}
 use Rattle.ballots.proofs.Sifting.{sifted_some, some_sifted, not_sifted}

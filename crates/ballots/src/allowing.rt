@@ -16,10 +16,11 @@ const NOTHING: Allowed = Allowed {
 };
 
 // By the ballots of a round. Rounds count from 0 here.
+#[tactic(auto, unfolding(crate::specs::Votes::after))]
 pub(crate) fn allowed_after(plan: &Plan, round: u64, tally: Tally) -> Allowed
     ensures { result ≡ after plan.now.n plan.now.t (kind round) tally }
 {
-    let m = plan.n() - plan.t();
+    let m = plan.quorum();
     match Kind::of_round(round) {
         Kind::First => after_first(m, tally),
         Kind::Second => after_second(plan.n(), m, tally),

@@ -11,6 +11,7 @@ use plan::Plan;
 use protocol::{Ballot, Kind, Side};
 
 // By a set of ballots of a round. Rounds count from 0 here.
+#[tactic(auto, unfolding(crate::specs::Steps::step_by))]
 pub(crate) fn step_by(plan: &Plan, round: u64, tally: Tally) -> Step
     ensures { result ≡ step_by plan.now.n plan.now.t (kind round) (amount tally) }
 {
