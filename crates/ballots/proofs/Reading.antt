@@ -1,7 +1,7 @@
 -- Rows of the ballots of a memory. Assumes nothing.
 use Rattle.std.proofs.Common.{◌≡◌, ℕ, zero, suc, ◌+◌, ◌-◌, ◌*◌, ◌<◌, ◌≤◌, Bool, true, ltb, List, None, Option, sym, ap, ◌∙◌, subst, arith}
 use Rattle.std.proofs.lemmas.Bool.Decides.{nat_tests}
-use Rattle.std.proofs.lemmas.Bool.{cond-true, cond-false, le-ltb, and_left}
+use Rattle.std.proofs.lemmas.Bool.{cond-true, cond-false, lt-ltb, le-ltb, le-leb, and_from, and_left}
 use Rattle.protocol.specs.declared.messages.Subject.TheVariants as subject
 use Rattle.protocol.specs.declared.votes.Ballot.{Ballot}
 use Rattle.plan.specs.declared.plans.Plan.{Plan}
@@ -25,6 +25,9 @@ module _ (plan : Plan) (h : Held) (i c : ℕ) where
   pub none_behind : (o r : ℕ) → plan.n ≤ o → ballots_at plan h i c o r ≡ None
   unfolding ballots_at
   none_behind o r l = cond-false (within plan (subject.Ballot o c (suc r))) _ None (and_left (ltb o plan.n) _ (le-ltb o plan.n l))
+
+pub ballot_within : (plan : Plan) (o c r : ℕ) → o < plan.n → c < plan.cases → 1 ≤ r → r ≤ 3 * plan.phases → within plan (subject.Ballot o c r) ≡ true
+ballot_within plan o c r a b first last = and_from _ _ (lt-ltb _ _ a) (and_from _ _ (lt-ltb _ _ b) (and_from _ _ (le-leb _ _ first) (le-leb _ _ last)))
 
 -- what a process, a case and a round have that are covered
 pub record Covered (plan : Plan) (h : Held) (i c r : ℕ) : Type 0 where
