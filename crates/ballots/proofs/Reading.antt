@@ -56,10 +56,6 @@ module _ (plan : Plan) (h : Held) (i c : ℕ) where
   abbrev valid : ℕ → ℕ → Option Ballot
   valid r = votes plan.n plan.t (ballots_at plan h i c) r
 
-  pub first_row : (row : List (Option Ballot)) → Holds (λ k. sifted beginning (ballots_at plan h i c k 0)) row → Holds (valid 0) row
-  unfolding votes
-  first_row row x = x
-
   -- a round of the loop: the row of round r is counted, and what it allows is sifted from the round after
   pub next_row :
       (r : ℕ) (before row : List (Option Ballot)) (allowed : ByBallot Bool)

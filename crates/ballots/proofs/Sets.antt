@@ -1,6 +1,7 @@
 -- The sets of a round and what can be drawn from its counts. Assumes nothing.
 use Rattle.std.proofs.Common.{◌≡◌, ℕ, ◌<◌, ◌≤◌, Bool, true, false, cond, ◌&&◌, eqb, ltb, is_some, Some, None, Option, sym, refl, ap, ◌∙◌, subst, arith}
 use Rattle.std.proofs.lemmas.Bool.{eqb-true, and_parts}
+use Rattle.std.proofs.Math.Bool.{and_comm}
 use Rattle.agreement.specs.Records.{has}
 use Rattle.protocol.specs.Counting.{below}
 use Rattle.protocol.specs.Numbers.{ballot_number}
@@ -29,19 +30,11 @@ first_of x g k = first_by x g k (g k)
 first_says : (x : ByBallot ℕ) (g : ℕ → Option Ballot) (k : ℕ) (o : Option Ballot) (b : Ballot) → (first_by x g k o && says b o) ≡ (says b o && ltb (below k (λ j. says b (g j))) (amount x b))
 unfolding first_by
 first_says x g k None b = refl
-first_says x g k (Some c) b = go (eqb (ballot_number c) (ballot_number b)) refl
+first_says x g k (Some c) b = and_comm _ (eqb (ballot_number c) (ballot_number b)) ∙ go (eqb (ballot_number c) (ballot_number b)) refl
   where
-    swap : (p : Bool) → (p && true) ≡ p
-    swap true = refl
-    swap false = refl
-
-    none : (p : Bool) → (p && false) ≡ false
-    none true = refl
-    none false = refl
-
-    go : (e : Bool) → eqb (ballot_number c) (ballot_number b) ≡ e → (ltb (below k (λ j. says c (g j))) (amount x c) && e) ≡ (e && ltb (below k (λ j. says b (g j))) (amount x b))
-    go false h = none _
-    go true h = swap _ ∙ ap (λ (d : Ballot). ltb (below k (λ j. says d (g j))) (amount x d)) (same_ballot c b (eqb-true _ _ h))
+    go : (e : Bool) → eqb (ballot_number c) (ballot_number b) ≡ e → (e && ltb (below k (λ j. says c (g j))) (amount x c)) ≡ (e && ltb (below k (λ j. says b (g j))) (amount x b))
+    go false h = refl
+    go true h = ap (λ (d : Ballot). ltb (below k (λ j. says d (g j))) (amount x d)) (same_ballot c b (eqb-true _ _ h))
 
 first_some : (x : ByBallot ℕ) (g : ℕ → Option Ballot) (k : ℕ) (o : Option Ballot) → first_by x g k o ≡ true → (b : Ballot) × (o ≡ Some b)
 unfolding first_by

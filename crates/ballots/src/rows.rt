@@ -11,7 +11,7 @@ use crate::counting::count;
 use crate::tallies::{Allowed, RoundBallots};
 use memory::{Memory, is_within, place_of};
 use plan::Plan;
-use protocol::Subject;
+use protocol::{PROCESSES, Subject};
 use std::array;
 
 const VOTES: Allowed = Allowed {
@@ -35,7 +35,7 @@ pub fn valid_ballots(
     ensures valid { ValidRow plan.now (held memory.now) process case round result }
 {
     if !is_covered(plan, memory, process, case, round) {
-        return [None; 16];
+        return [None; PROCESSES as usize];
     }
     let accepted = Accepted {
         plan,

@@ -14,6 +14,7 @@ use Rattle.consensus.specs.Rounds.{Accepted, tally, Allows}
 use Rattle.agreement.proofs.Counts.{below_all, below_measure}
 use Rattle.consensus.specs.Validity.{Valid, lowest, Resilient, Correct}
 use Rattle.consensus.specs.Decisions.{Advances}
+use Rattle.consensus.proofs.Sides.{both_sides}
 
 one_lowest : (m c d : ℕ) (b : Bool) → d ≡ min m c → cond (b && ltb c m) 1 0 + d ≡ min m (cond b 1 0 + c)
 one_lowest m c d false e = omega arith
@@ -28,11 +29,7 @@ lowest_size (suc n) m p = one_lowest m (below n p) (below n (lowest m p)) (p n) 
 -- the side that has more than a bound, or none has
 pick : (bound : ℕ) (f : Side → ℕ) → ((v : Side) × (bound < f v)) ⊎ ((v : Side) → f v ≤ bound)
 pick bound f =
-    ⊎_elim (λ (l : bound < f Keep). inl (Keep, l)) (λ (l : f Keep ≤ bound). ⊎_elim (λ (k : bound < f Release). inl (Release, k)) (λ (k : f Release ≤ bound). inr (neither l k)) (cases_lt bound (f Release))) (cases_lt bound (f Keep))
-  where
-    neither : f Keep ≤ bound → f Release ≤ bound → (v : Side) → f v ≤ bound
-    neither l k Keep = l
-    neither l k Release = k
+    ⊎_elim (λ (l : bound < f Keep). inl (Keep, l)) (λ (l : f Keep ≤ bound). ⊎_elim (λ (k : bound < f Release). inl (Release, k)) (λ (k : f Release ≤ bound). inr (both_sides (λ v. f v ≤ bound) l k)) (cases_lt bound (f Release))) (cases_lt bound (f Keep))
 
 allows_some : (n t : ℕ) (q : Kind) (count : Ballot → ℕ) → (b : ℕ) × Allows n t q count b
 allows_some n t First count = (_, refl)

@@ -15,6 +15,10 @@ abbrev pub other : Side → Side
 other Keep = Release
 other Release = Keep
 
+pub both_sides : (P : Side → Type 0) → P Keep → P Release → (v : Side) → P v
+both_sides P a b Keep = a
+both_sides P a b Release = b
+
 pub vote_side : (u v : Side) → ballot_number (vote u) ≡ ballot_number (vote v) → u ≡ v
 vote_side Keep Keep e = refl
 vote_side Keep Release e = absurd (omega arith)

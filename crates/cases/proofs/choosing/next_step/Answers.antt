@@ -13,7 +13,7 @@ returns-then-count_all-m-clause-value c =
     stays c.args.plan.now (held c.args.memory.now) c.args.process c.args.case _ c.quorum-m.result c.valid_ballots-row.result (round (goal.at.returns-then-count_all-m-clause-value c).After-count_all) c.quorum-m.ensures c.valid_ballots-row.ensures.value (omega arith)
 
 pub returns-then-count_all-m-clause-law : goal.returns-then-count_all-m-clause-law
-returns-then-count_all-m-clause-law c = law c.args.plan.now (held c.args.memory.now) c.args.process c.args.case _ (returns-then-count_all-m-clause-value c)
+returns-then-count_all-m-clause-law c = law _ _ _ _ _ (returns-then-count_all-m-clause-value c)
 
 pub overflow_sub-round : goal.overflow_sub-round
 overflow_sub-round c =
@@ -25,4 +25,4 @@ returns-clause-value c =
     c.choose_lowest.result c.count.result c.step_by.result (omega arith) c.choose_lowest.ensures c.count.ensures c.step_by.ensures
 
 pub returns-clause-law : goal.returns-clause-law
-returns-clause-law c = law c.args.plan.now (held c.args.memory.now) c.args.process c.args.case _ (returns-clause-value c)
+returns-clause-law c = law _ _ _ _ _ (returns-clause-value c)
