@@ -8,10 +8,10 @@ ghost use Rattle.ballots.specs.Places.{body_at, ballots_at, covers, valid_at, Va
 
 use crate::allowing::{allowed_after, sift};
 use crate::counting::count;
-use crate::tallies::Allowed;
-use memory::{Memory, place_of};
+use crate::tallies::{Allowed, RoundBallots};
+use memory::{Memory, is_within, place_of};
 use plan::Plan;
-use protocol::{Ballot, Subject};
+use protocol::{PROCESSES, Subject};
 use std::array;
 
 const VOTES: Allowed = Allowed {
@@ -30,12 +30,12 @@ pub fn valid_ballots(
     process: u64,
     case: u64,
     round: u64,
-) -> [Option<Ballot>; 16]
+) -> RoundBallots
     ensures value { Holds (valid_at plan.now (held memory.now) process case round) result }
     ensures valid { ValidRow plan.now (held memory.now) process case round result }
 {
     if !is_covered(plan, memory, process, case, round) {
-        return [None; 16];
+        return [None; PROCESSES as usize];
     }
     let accepted = Accepted {
         plan,
@@ -54,8 +54,12 @@ pub fn valid_ballots(
 fn is_covered(plan: &Plan, memory: &Memory, process: u64, case: u64, round: u64) -> bool
     ensures { result ≡ covers plan.now (held memory.now) process case round }
 {
-    let rounds = 1..=3 * plan.phases();
-    process < plan.n() && case < plan.cases() && rounds.contains(&round) && memory.is_enough(plan)
+    let own = Subject::Ballot {
+        originator: process,
+        case,
+        round,
+    };
+    is_within(plan, own) && memory.is_enough(plan)
 }
 
 // What a process has accepted in a case.
@@ -70,7 +74,7 @@ struct Accepted<'a, 'm> {
 
 impl<'a, 'm> Accepted<'a, 'm> {
     // The accepted ballots of a round that are allowed in it.
-    fn sifted_row(&self, round: u64, allowed: Allowed) -> [Option<Ballot>; 16]
+    fn sifted_row(&self, round: u64, allowed: Allowed) -> RoundBallots
         requires { 1 ≤ round }
         ensures { Holds (λ k. sifted allowed (ballots_at self.now.plan.now (held self.now.memory.now) self.now.process self.now.case k (round - 1))) result }
     {

@@ -1,7 +1,10 @@
 // How many there are of each ballot, and which ballots some set of them allows.
 ghost use Rattle.std.specs.Prelude.{◌≡◌};
 
-use protocol::Ballot;
+use protocol::{Ballot, PROCESSES};
+
+// The ballots of a round by originator, none where a process has no valid one.
+pub type RoundBallots = [Option<Ballot>; PROCESSES as usize];
 
 // One thing of each ballot.
 #[derive(Clone, Copy, Debug, PartialEq, Eq)]
