@@ -6,10 +6,7 @@ ghost use Rattle.std.specs.Prelude.{◌≡◌, ℕ, ◌-◌, ◌≤◌, true, Li
 ghost use Rattle.protocol.specs.declared.messages.Message.{Message};
 ghost use Rattle.carrier.specs.Waiting.{capped, waiting_for, Posted, Taken};
 
-use protocol::{Message, Refusal};
-
-// Processes are numbered below this, whatever the plan.
-const PROCESSES: u64 = 16;
+use protocol::{Message, PROCESSES, Refusal};
 
 pub trait Carrier {
     // The messages that wait. Repeats count, the order does not.

@@ -1,5 +1,5 @@
 // Plans: making one and reading its numbers.
-ghost use Rattle.std.specs.Prelude.{◌≡◌, ◌*◌, ◌<◌, ◌≤◌};
+ghost use Rattle.std.specs.Prelude.{◌≡◌, ◌-◌, ◌*◌, ◌<◌, ◌≤◌};
 
 use protocol::Refusal;
 
@@ -100,6 +100,20 @@ impl Plan {
         ensures { result ≡ self.now.phases }
     {
         u64::from(self.phases)
+    }
+
+    // How many rounds a case has.
+    pub fn rounds(&self) -> u64
+        ensures { result ≡ 3 * self.now.phases }
+    {
+        3 * self.phases()
+    }
+
+    // How many processes can be waited for, since as many as may be faulty may stay silent.
+    pub fn quorum(&self) -> u64
+        ensures { result ≡ self.now.n - self.now.t }
+    {
+        self.n() - self.t()
     }
 
     // A process has a broadcast record for each subject of each originator, and in it a place for each sender's echo and ready.

@@ -5,7 +5,7 @@ pub mod messages;
 pub mod refusals;
 pub mod votes;
 
-pub use messages::{Message, Step, Subject};
+pub use messages::{Message, PROCESSES, Step, Subject};
 pub use refusals::Refusal;
 pub use votes::{Ballot, Side};
 

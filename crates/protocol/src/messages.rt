@@ -4,7 +4,7 @@ ghost use Rattle.std.specs.Prelude.{◌≡◌, ◌<◌};
 use crate::refusals::Refusal;
 
 // Processes are numbered below this, whatever the plan.
-const PROCESSES: u64 = 16;
+pub const PROCESSES: u64 = 16;
 
 // Where a broadcast stands for the sender: it begins it, repeats what was begun, or commits to it.
 #[derive(Clone, Copy, Debug, PartialEq, Eq)]
@@ -56,6 +56,18 @@ pub struct Message {
 
 impl Message {
     ghost use Rattle.protocol.specs.Messages.{made};
+
+    // Fills places that are lent to a carrier. It says nothing, and no carrier gives it out.
+    pub const BLANK: Message = Message {
+        sender: 0,
+        addressee: 0,
+        step: Step::Initial,
+        subject: Subject::Item {
+            originator: 0,
+            serial: 0,
+        },
+        body: 0,
+    };
 
     // Refused unless both ends are below 16.
     pub fn new(
