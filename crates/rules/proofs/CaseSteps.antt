@@ -12,7 +12,7 @@ use Rattle.protocol.specs.declared.votes.Side.{Side}
 use Rattle.agreement.proofs.Bodies.{none_some}
 use Rattle.plan.specs.Plans.{needs_of}
 use Rattle.protocol.proofs.Bags.{count_append}
-use Rattle.plan.specs.declared.drafts.Line.{Line}
+use Rattle.plan.specs.Kinds.{Line}
 use Rattle.memory.specs.Contents.{Held, silent, case_at}
 use Rattle.memory.specs.Places.{enough, place, case_place}
 use Rattle.memory.specs.declared.records.BroadcastRecord.{BroadcastRecord}
