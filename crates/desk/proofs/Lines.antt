@@ -9,8 +9,7 @@ use Rattle.protocol.specs.declared.refusals.Refusal.{Refusal}
 use Rattle.plan.specs.Marks.{mark_answer, marks_after}
 use Rattle.plan.specs.Plans.{planned}
 use Rattle.plan.specs.declared.plans.Plan.{Plan}
-use Rattle.plan.specs.declared.drafts.Draft.{Draft}
-use Rattle.plan.specs.declared.drafts.Line.{Line}
+use Rattle.plan.specs.Kinds.{Draft, Line}
 use Rattle.protocol.specs.declared.messages.Message.{Message}
 use Rattle.memory.specs.Contents.{Held, cleared}
 use Rattle.line.specs.Opening.{open_refusal, Opened, NotOpened, Opens}

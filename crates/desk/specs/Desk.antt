@@ -8,8 +8,7 @@ use Rattle.protocol.specs.declared.refusals.Refusal.TheVariants.{MarkRefused, Li
 use Rattle.plan.specs.Marks.{mark_answer, marks_after}
 use Rattle.plan.specs.Plans.{planned}
 use Rattle.plan.specs.declared.plans.Plan.{Plan}
-use Rattle.plan.specs.declared.drafts.Draft.{Draft}
-use Rattle.plan.specs.declared.drafts.Line.{Line}
+use Rattle.plan.specs.Kinds.{Draft, Line}
 use Rattle.item.specs.Tags.{tagged, number_of}
 use Rattle.item.specs.declared.tags.Tag.{Tag}
 use Rattle.coin.specs.Sides.{word_side}

@@ -6,7 +6,7 @@ use Rattle.protocol.specs.declared.messages.Subject.TheVariants.{Ballot}
 use Rattle.protocol.specs.declared.messages.Message.{Message}
 use Rattle.protocol.specs.declared.votes.Side.{Side}
 use Rattle.agreement.proofs.Bodies.{some_if}
-use Rattle.plan.specs.declared.drafts.Line.{Line}
+use Rattle.plan.specs.Kinds.{Line}
 use Rattle.memory.specs.Contents.{Held, silent, unopened, case_at, accepted_body}
 use Rattle.memory.specs.Places.{enough, within, place, case_place}
 use Rattle.memory.specs.declared.records.BroadcastRecord.{BroadcastRecord}

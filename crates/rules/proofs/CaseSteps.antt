@@ -11,7 +11,7 @@ use Rattle.protocol.specs.declared.messages.Subject.{Subject}
 use Rattle.protocol.specs.declared.messages.Subject.TheVariants.{Item, Ballot}
 use Rattle.protocol.specs.declared.votes.Side.{Side}
 use Rattle.agreement.proofs.Bodies.{none_some}
-use Rattle.plan.specs.declared.drafts.Line.{Line}
+use Rattle.plan.specs.Kinds.{Line}
 use Rattle.memory.specs.Contents.{Held, silent, case_at}
 use Rattle.memory.specs.Places.{place, case_place}
 use Rattle.memory.specs.declared.records.BroadcastRecord.{BroadcastRecord}

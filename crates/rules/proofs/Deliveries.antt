@@ -9,7 +9,7 @@ use Rattle.protocol.specs.declared.messages.Step.TheVariants.{Initial, Echo, Rea
 use Rattle.protocol.specs.declared.messages.Subject.{Subject}
 use Rattle.plan.specs.Plans.{needs_of}
 use Rattle.plan.specs.Sheet.{thresholds_of}
-use Rattle.plan.specs.declared.drafts.Line.{Line}
+use Rattle.plan.specs.Kinds.{Line}
 use Rattle.memory.specs.Contents.{Held, silent, stage_at}
 use Rattle.memory.specs.Places.{enough, within, place, readies, placed}
 use Rattle.memory.specs.declared.records.BroadcastRecord.{BroadcastRecord}

@@ -9,7 +9,7 @@ use Rattle.protocol.specs.declared.messages.Subject.TheVariants.{Ballot}
 use Rattle.protocol.specs.Sending.{to_all}
 use Rattle.protocol.proofs.Bags.{count_append}
 use Rattle.protocol.specs.declared.votes.Side.{Side}
-use Rattle.plan.specs.declared.drafts.Line.{Line}
+use Rattle.plan.specs.Kinds.{Line}
 use Rattle.memory.specs.Contents.{Held, unopened}
 use Rattle.memory.specs.Places.{within}
 use Rattle.memory.specs.declared.records.CaseRecord.{CaseRecord}

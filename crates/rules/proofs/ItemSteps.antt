@@ -9,7 +9,7 @@ use Rattle.protocol.specs.declared.messages.Step.TheVariants.{Initial, Echo, Rea
 use Rattle.protocol.specs.declared.messages.Subject.TheVariants.{Item, Ballot}
 use Rattle.protocol.specs.declared.refusals.Refusal.{Refusal}
 use Rattle.protocol.proofs.Bags.{count_none, count_cons, count_append}
-use Rattle.plan.specs.declared.drafts.Line.{Line}
+use Rattle.plan.specs.Kinds.{Line}
 use Rattle.memory.specs.Contents.{Held, serial_at, with_serial}
 use Rattle.memory.specs.Places.{enough, within}
 use Rattle.memory.proofs.Sizes.{sizes}

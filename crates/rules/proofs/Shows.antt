@@ -13,7 +13,7 @@ use Rattle.agreement.proofs.Bodies.{none_some}
 use Rattle.protocol.proofs.Bags.{count_none, count_cons, count_append}
 use Rattle.protocol.proofs.Parts.{sender_of, subject_of}
 use Rattle.plan.specs.Plans.{needs_of}
-use Rattle.plan.specs.declared.drafts.Line.{Line}
+use Rattle.plan.specs.Kinds.{Line}
 use Rattle.plan.specs.declared.plans.Plan.{Plan}
 use Rattle.memory.specs.Contents.{Held, cleared, silent, unopened, stage_at, case_at, serial_at}
 use Rattle.memory.specs.Places.{enough, within, place, case_place}

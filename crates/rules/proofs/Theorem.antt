@@ -8,7 +8,7 @@ use Rattle.protocol.specs.declared.messages.Subject.TheVariants.{Item, Ballot}
 use Rattle.protocol.specs.declared.votes.Side.{Side}
 use Rattle.agreement.proofs.Bodies.{none_some, some_once}
 use Rattle.plan.specs.Sheet.{thresholds_of}
-use Rattle.plan.specs.declared.drafts.Line.{Line}
+use Rattle.plan.specs.Kinds.{Line}
 use Rattle.plan.proofs.Marked.{few_marked}
 use Rattle.carrier.specs.Waiting.{addressed}
 use Rattle.memory.specs.Contents.{Held}

@@ -6,7 +6,7 @@ use Rattle.std.proofs.lemmas.Bool.{cond-false, or_from, lt-leb}
 use Rattle.protocol.specs.declared.refusals.Refusal.{Refusal}
 use Rattle.plan.specs.Marks.{marked, mark_answer}
 use Rattle.plan.proofs.Marked.{set_inside, set_ones, set_marked}
-use Rattle.plan.proofs.drafts.Draft.mark_faulty.Goals as goal
+use Rattle.plan.proofs.drafts.Marked+Drafted.mark_faulty.Goals as goal
 
 pub invariant_of-self : goal.invariant_of-self
 invariant_of-self c =
