@@ -22,8 +22,8 @@ pub fn pull<'a>(cursor: &mut Cursor<'a>) -> Result<Found<'a>, FormFault>
     Ok(Found { token, place })
 }
 
-// The end of the line behind a whole form, which is given back as the answer: a clause tells
-// of the form that a line is.
+// The end of the line behind a whole form. The form is handed in and given back, since the grammar
+// ends a line in its form, and the clause says which.
 pub fn finish(cursor: &mut Cursor<'_>, form: Form) -> Result<Form, FormFault>
     ensures { Ends cursor.old form result }
 {
