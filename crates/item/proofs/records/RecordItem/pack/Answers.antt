@@ -1,6 +1,6 @@
 use Rattle.std.proofs.Common.{arith}
 use Rattle.item.specs.Bodies.{shifted}
-use Rattle.item.proofs.records.methods.RecordItem.pack.Goals as goal
+use Rattle.item.proofs.records.RecordItem.pack.Goals as goal
 
 pub returns : goal.returns
 returns c =
