@@ -31,6 +31,7 @@ pub enum Kind {
 }
 
 impl Side {
+    // A method for each number here: it is read by its name, and a `From` would say the same.
     pub fn number(self) -> u64
         ensures { result ≡ side_number self }
     {
