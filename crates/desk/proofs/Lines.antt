@@ -9,8 +9,7 @@ use Rattle.protocol.specs.declared.refusals.Refusal.{Refusal}
 use Rattle.plan.specs.Marks.{mark_answer, marks_after}
 use Rattle.plan.specs.Plans.{planned}
 use Rattle.plan.specs.declared.plans.Plan.{Plan}
-use Rattle.plan.specs.declared.drafts.Draft.{Draft}
-use Rattle.plan.specs.declared.drafts.Line.{Line}
+use Rattle.plan.specs.Kinds.{Draft, Line}
 use Rattle.protocol.specs.declared.messages.Message.{Message}
 use Rattle.memory.specs.Contents.{Held, cleared}
 use Rattle.line.specs.Opening.{open_refusal, Opened, NotOpened, Opens}
@@ -44,6 +43,7 @@ same_line l k plan marks = λ i.
     record {
       plan = plan i;
       marks = marks i;
+      state = record {};
       few = is_prop→PathP (λ j. ones (marks j) ≤ (plan j).t) (λ j. le_prop {n = ones (marks j)} {m = (plan j).t}) l.few k.few i;
       inside = is_prop→PathP (λ j. marks j < 2 ^ (plan j).n) (λ j. le_prop {n = suc (marks j)} {m = 2 ^ (plan j).n}) l.inside k.inside i;
     }

@@ -11,7 +11,7 @@ use Rattle.protocol.specs.declared.messages.Subject.TheVariants.{Ballot as Ballo
 use Rattle.protocol.specs.declared.refusals.Refusal.{Refusal}
 use Rattle.protocol.specs.declared.refusals.Refusal.TheVariants.{SubjectOutOfPlan}
 use Rattle.protocol.specs.declared.votes.Ballot.{Ballot}
-use Rattle.plan.specs.declared.drafts.Line.{Line}
+use Rattle.plan.specs.Kinds.{Line}
 use Rattle.plan.specs.declared.plans.Plan.{Plan}
 use Rattle.memory.specs.Contents.{Held}
 use Rattle.memory.specs.Places.{case_place, case_place_of}

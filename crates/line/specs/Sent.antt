@@ -9,7 +9,7 @@ use Rattle.protocol.specs.declared.messages.Step.TheVariants.{Initial}
 use Rattle.protocol.specs.declared.messages.Subject.{Subject}
 use Rattle.protocol.specs.declared.messages.Subject.TheVariants.{Ballot}
 use Rattle.protocol.specs.declared.votes.Ballot.{Ballot as BallotSaid}
-use Rattle.plan.specs.declared.drafts.Line.{Line}
+use Rattle.plan.specs.Kinds.{Line}
 use Rattle.carrier.specs.Posting.{Posts}
 
 -- the messages were posted in this order, and wait with the others

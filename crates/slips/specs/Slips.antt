@@ -5,7 +5,7 @@ use Rattle.protocol.specs.declared.refusals.Refusal.{Refusal}
 use Rattle.protocol.specs.declared.refusals.Refusal.TheVariants.{SubjectOutOfPlan, SlipRefused}
 use Rattle.protocol.specs.declared.votes.Side.{Side}
 use Rattle.protocol.specs.declared.votes.Side.TheVariants.{Keep, Release}
-use Rattle.plan.specs.declared.drafts.Line.{Line}
+use Rattle.plan.specs.Kinds.{Line}
 use Rattle.memory.specs.Contents.{Held, case_at, with_case}
 use Rattle.memory.specs.Places.{case_place}
 use Rattle.memory.specs.declared.records.CaseRecord.{CaseRecord}
