@@ -47,7 +47,7 @@ pub fn advance<C: Carrier, K: Coin>(
     })
 }
 
-// What a process sends its ballot of the next round for: nothing after the last round.
+// The subject of a process's ballot of the next round, if there is one.
 fn subject_after(line: &Line, process: u64, case: u64, round: u64) -> Option<Subject>
     requires { round < 255 }
     ensures { result ≡ subject_after line.now process case round }

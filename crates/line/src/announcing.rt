@@ -28,13 +28,13 @@ pub fn announce<C: Carrier, I: Item>(
     ensures order { IfOk result (λ a. Posts C.Carrier.posting carrier.old (initials line.now process a.serial (I.Item.packed value.now)) carrier.new) }
 {
     check_correct(line, memory, process)?;
-    let serial = memory.next_serial(process as usize);
-    if u64::from(serial) >= line.plan().serials() {
+    let next = memory.next_serial(process as usize);
+    let serial = u64::from(next);
+    if serial >= line.plan().serials() {
         return Err(Refusal::SerialsUsedUp);
     }
     check_room_for_all(line, carrier)?;
-    memory.set_next_serial(process as usize, serial + 1);
-    let serial = u64::from(serial);
+    memory.set_next_serial(process as usize, next + 1);
     let subject = Subject::Item {
         originator: process,
         serial,
