@@ -61,7 +61,7 @@ module _ (plan : Plan) (marks : ℕ) where
   line_if false e = Err MarkRefused
   line_if true e =
       let a = and_parts (nat_le (count_ones marks) plan.t) (nat_lt marks (2 ^ plan.n)) e in
-      Ok record { plan = plan; marks = marks; few = leb-true (count_ones marks) plan.t a.0; inside = ltb-true marks (2 ^ plan.n) a.1 }
+      Ok record { plan = plan; marks = marks; state = record {}; few = leb-true (count_ones marks) plan.t a.0; inside = ltb-true marks (2 ^ plan.n) a.1 }
 
   -- the line with this plan and these marks; the marks of a draft make one
   unfoldable pub line_of : Result Line Refusal
@@ -103,10 +103,10 @@ forging (Ok m) = Ok (Forge m)
 forging (Err e) = Err e
 
 abbrev pub asks : Form → Result Turn Refusal
-asks (form.Line n t ms) = Err LineOutOfPlace
+asks (form.Line l) = Err LineOutOfPlace
 asks (form.Announce c t) = announcing c (tagged t)
 asks (form.Open c k v) = Ok (Open c k v)
-asks (form.Forge f c st su b) = forging (made f c st su b)
+asks (form.Forge g) = forging (made g.from g.to g.step g.subject g.body)
 asks (form.Deliver c p) = Ok (Deliver c p)
 asks (form.Advance c k) = Ok (Advance c k)
 
@@ -169,9 +169,9 @@ turns_at capacity None h ws f = done (Err LineOutOfPlace) (desk None h ws)
 
 -- what a form does at a desk with a basket of so many places
 abbrev pub acts : ℕ → AtDesk → Form → Done
-acts capacity d (form.Line n t ms) = opens_at d.line d.memory d.waiting n t ms
+acts capacity d (form.Line l) = opens_at d.line d.memory d.waiting l.counters l.tolerate l.strange
 acts capacity d (form.Announce c t) = turns_at capacity d.line d.memory d.waiting (form.Announce c t)
 acts capacity d (form.Open c k v) = turns_at capacity d.line d.memory d.waiting (form.Open c k v)
-acts capacity d (form.Forge f c st su b) = turns_at capacity d.line d.memory d.waiting (form.Forge f c st su b)
+acts capacity d (form.Forge g) = turns_at capacity d.line d.memory d.waiting (form.Forge g)
 acts capacity d (form.Deliver c p) = turns_at capacity d.line d.memory d.waiting (form.Deliver c p)
 acts capacity d (form.Advance c k) = turns_at capacity d.line d.memory d.waiting (form.Advance c k)

@@ -30,11 +30,7 @@ impl Desk<'_> {
         ensures kept { places self.new ≡ places self.old }
     {
         match form {
-            Form::Line {
-                counters,
-                tolerate,
-                strange,
-            } => self.open(counters, tolerate, &strange),
+            Form::Line(line) => self.open(line.counters, line.tolerate, &line.strange),
             turn => self.take_turn(turn),
         }
     }

@@ -4,7 +4,7 @@ ghost use Rattle.item.specs.Tags.{tagged};
 ghost use Rattle.protocol.specs.Messages.{made};
 ghost use Rattle.desk.specs.Desk.{announcing as announced, forging as forged, asks, asking};
 
-use form::Form;
+use form::{ForgeForm, Form};
 use item::Tag;
 use protocol::{Message, Refusal, Step, Subject};
 use runs::Turn;
@@ -34,7 +34,7 @@ pub(crate) fn turn_of(form: Form) -> Result<Turn<Tag>, Refusal>
     ensures { asking result ≡ asks form }
 {
     match form {
-        Form::Line { .. } => Err(Refusal::LineOutOfPlace),
+        Form::Line(_) => Err(Refusal::LineOutOfPlace),
         Form::Announce { counter, tag } => announcing(counter, tag),
         Form::Open {
             counter,
@@ -45,13 +45,13 @@ pub(crate) fn turn_of(form: Form) -> Result<Turn<Tag>, Refusal>
             case,
             vote,
         }),
-        Form::Forge {
+        Form::Forge(ForgeForm {
             from,
             to,
             step,
             subject,
             body,
-        } => forging(from, to, step, subject, body),
+        }) => forging(from, to, step, subject, body),
         Form::Deliver { counter, pick } => Ok(Turn::Deliver {
             process: counter,
             pick,

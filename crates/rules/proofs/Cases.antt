@@ -10,7 +10,9 @@ use Rattle.agreement.proofs.Bodies.{none_some, some_once}
 use Rattle.plan.specs.Kinds.{Line}
 use Rattle.memory.specs.Contents.{Held, case_at}
 use Rattle.memory.specs.Places.{case_place}
-use Rattle.consensus.specs.Rounds.{Accepted, Third, kind, tally, Allows}
+use Rattle.protocol.specs.declared.votes.Kind.TheVariants.{Third}
+use Rattle.protocol.specs.Phases.{kind}
+use Rattle.consensus.specs.Rounds.{Accepted, tally, Allows}
 use Rattle.consensus.specs.Validity.{Justified, Part}
 use Rattle.consensus.specs.Decisions.{Tossed}
 use Rattle.consensus.specs.Accounts.{Left}

@@ -1,5 +1,5 @@
 use Rattle.std.proofs.Common.{append_assoc}
-use Rattle.form.proofs.writer.put_forge.Goals as goal
+use Rattle.form.proofs.forms.ForgeForm.write_to.Goals as goal
 
 pub returns : goal.returns
 returns c =

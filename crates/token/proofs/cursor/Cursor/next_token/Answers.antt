@@ -1,7 +1,7 @@
 use Rattle.std.proofs.Common.{sym, ◌∙◌}
 use Rattle.std.proofs.lemmas.Result.{err_from_is_err_and}
 use Rattle.token.proofs.Scans.{scanned_fault}
-use Rattle.token.proofs.cursor.Cursor.next.Goals as goal
+use Rattle.token.proofs.cursor.Cursor.next_token.Goals as goal
 
 pub returns-in_err-token-clause-value : goal.returns-in_err-token-clause-value
 returns-in_err-token-clause-value c =

@@ -1,0 +1,43 @@
+#!/bin/bash
+# Two programs that the compiler must refuse, and the lawful twin of each, which must run. refused/NAME.txt is the main file
+# of a crate that is tried in a copy of the repository; it does not end in .rt, since rt ci stops at a .rt file that no
+# crate has. Must-fail edits are no place for these: they count where the prover refuses, not the compiler.
+set -euo pipefail
+cd "$(dirname "$0")/.."
+tree=$(mktemp -d)
+trap 'rm -rf "$tree"' EXIT
+tar --exclude=out -cf - crates crates.txt | tar -xf - -C "$tree"
+for file in refused/*.txt; do
+    name=$(basename "$file" .txt)
+    mkdir -p "$tree/crates/$name/src"
+    cp "$file" "$tree/crates/$name/src/main.rt"
+    echo "$name: memory plan protocol slips" >>"$tree/crates.txt"
+done
+for file in refused/*.txt; do
+    name=$(basename "$file" .txt)
+    (cd "$tree/crates/$name" && rt try >"$tree/$name.log" 2>&1 && touch "$tree/$name.ran") &
+done
+wait
+failed=0
+# NAME: the program runs to its end.
+runs() {
+    if [ ! -e "$tree/$1.ran" ]; then
+        echo "refused-programs: $1 is lawful and does not run" >&2
+        cat "$tree/$1.log" >&2
+        failed=1
+    fi
+}
+# NAME ERROR: the program is refused with this error and no other.
+refused() {
+    if [ -e "$tree/$1.ran" ] || ! grep -qF "$2" "$tree/$1.log" || [ "$(grep -c ': error\[' "$tree/$1.log")" != 1 ]; then
+        echo "refused-programs: $1 is not refused with $2" >&2
+        cat "$tree/$1.log" >&2
+        failed=1
+    fi
+}
+refused marks_line 'error[unknown-method]: no method named `mark_faulty`'
+runs marks_draft
+refused keeps_slip 'error[linear-value-let-go]: `slip` is let go'
+runs returns_slip
+[ "$failed" = 0 ] && echo "refused-programs: two refused, their twins run"
+exit "$failed"
