@@ -6,8 +6,8 @@ ghost use Rattle.tray.specs.Tables.{kept, is_for, is_free};
 
 use protocol::{Message, Refusal};
 
-// Each place has a message or is free, in no order. A plain table, as docs/DECISIONS.md gives it.
-#[derive(Drop)]
+// Each place has a message or is free, in no order, so it has no `==`. A plain table, as docs/DECISIONS.md gives it.
+#[derive(Debug, Drop)]
 pub struct Table {
     places: [Option<Message>; 8],
 }
@@ -21,6 +21,7 @@ fn is_for(place: Option<Message>, process: u64) -> bool
 
 impl Table {
     // All places are free.
+    #[tactic(auto, unfolding(crate::specs::Tables::messages))]
     pub fn new() -> Table
         ensures { kept result.places ≡ [] }
     {

@@ -9,7 +9,7 @@ use protocol::{Message, Refusal};
 
 // It keeps a message itself while one of its 8 places is free, and posts it below when none is.
 // It takes from its own places first, and from below where none of its own messages is for the process.
-#[derive(Drop)]
+#[derive(Debug, Drop)]
 pub struct Tray<C> {
     table: Table,
     below: C,

@@ -120,15 +120,17 @@ fn comes_back(
 ) -> ReleaseSlip {
     let line = Line::from(Draft::new(plan));
     let before = decided(Side::Release, state);
-    let memory = &mut Memory {
+    let mut memory = Memory {
         broadcasts: &mut [BroadcastRecord::SILENT; 96],
         bodies: &mut [None; 768],
         cases: &mut [before; 8],
         serials: &mut [0; 4][0..serials.min(4)],
     };
-    let slip = refused(rt, hand_over(&line, memory, slip), expected);
-    let slip = refused(rt, put_back(&line, memory, slip), expected);
-    assert!(rt; memory.cases.iter().all(|record| *record == before));
+    let slip = refused(rt, hand_over(&line, &mut memory, slip), expected);
+    let slip = refused(rt, put_back(&line, &mut memory, slip), expected);
+    for place in 0..8 {
+        assert_eq!(rt; memory.case_record(place), before);
+    }
     slip
 }
 
