@@ -12,9 +12,11 @@ use Rattle.plan.specs.declared.plans.Plan.{Plan}
 use Rattle.plan.specs.declared.drafts.Draft.{Draft}
 use Rattle.plan.specs.declared.drafts.Line.{Line}
 use Rattle.protocol.specs.declared.messages.Message.{Message}
+use Rattle.form.specs.declared.forms.Form.{Form}
+use Rattle.form.specs.declared.forms.Form.TheVariants as form
 use Rattle.memory.specs.Contents.{Held, cleared}
 use Rattle.line.specs.Opening.{open_refusal, Opened, NotOpened, Opens}
-use Rattle.desk.specs.Desk.{past, marking, lawful, line_if, line_of, opening, opens_with, opens_marked, opens_planned, opens}
+use Rattle.desk.specs.Desk.{past, marking, lawful, line_if, line_of, opening, opens_with, opens_marked, opens_planned, opens, opens_by}
 
 -- one mark more of a list, while the draft's plan Q is the plan P
 module _ (P Q : Plan) (marks : ℕ) where
@@ -59,36 +61,36 @@ line_is line = go (lawful line.plan line.marks) refl where
 pub line_of_lem : (line : Line) (plan : Plan) (marks : ℕ) → line.plan ≡ plan → line.marks ≡ marks → line_of plan marks ≡ Ok line
 line_of_lem line plan marks e f = (λ i. line_of (sym e i) (sym f i)) ∙ line_is line
 
--- opening a line, from its plan on
-module _ (h : Held) (ws : List Message) (n t : ℕ) (ms : List ℕ) where
-  pub no_plan : (e : Refusal) → Err e ≡ planned n t 2 1 3 → opening (Err e) h ≡ opens h ws n t ms
+-- opening the line of a form, from its plan on
+module _ (h : Held) (ws : List Message) (n t : ℕ) (ms : List ℕ) (f : Form) (is : f ≡ form.Line n t ms) where
+  pub no_plan : (e : Refusal) → Err e ≡ planned n t 2 1 3 → opening (Err e) h ≡ opens_by h ws f
   unfolding opens
-  no_plan e p = ap (λ (r : Result Plan Refusal). opens_planned h ws r ms) p
+  no_plan e p = ap (λ (r : Result Plan Refusal). opens_planned h ws r ms) p ∙ ap (opens_by h ws) (sym is)
 
   module _ (plan : Plan) (p : Ok plan ≡ planned n t 2 1 3) where
-    by_marks : (r : Result ℕ Refusal) → r ≡ marking plan 0 ms → opens_marked h ws plan r ≡ opens h ws n t ms
+    by_marks : (r : Result ℕ Refusal) → r ≡ marking plan 0 ms → opens_marked h ws plan r ≡ opens_by h ws f
     unfolding opens
-    by_marks r q = ap (opens_marked h ws plan) q ∙ ap (λ (x : Result Plan Refusal). opens_planned h ws x ms) p
+    by_marks r q = ap (opens_marked h ws plan) q ∙ (ap (λ (x : Result Plan Refusal). opens_planned h ws x ms) p ∙ ap (opens_by h ws) (sym is))
 
-    pub no_marks : (e : Refusal) → Err e ≡ marking plan 0 ms → opening (Err e) h ≡ opens h ws n t ms
+    pub no_marks : (e : Refusal) → Err e ≡ marking plan 0 ms → opening (Err e) h ≡ opens_by h ws f
     no_marks e q = by_marks (Err e) q
 
     module _ (draft : Draft) (same : draft.plan ≡ plan) (q : Ok draft.marks ≡ marking plan 0 ms) where
-      opened : (line : Line) (after : Held) → Opened draft h ws line after → opening (Ok line) after ≡ opens h ws n t ms
+      opened : (line : Line) (after : Held) → Opened draft h ws line after → opening (Ok line) after ≡ opens_by h ws f
       opened line after o =
           let allowed : open_refusal plan h ws ≡ None = ap (λ (x : Plan). open_refusal x h ws) (sym same) ∙ o.allowed in
           let memory : after ≡ cleared plan h = o.memory ∙ ap (λ (x : Plan). cleared x h) same in
           ap (opening (Ok line)) memory
           ∙ ((λ i. opens_with h ws plan (sym allowed i) (sym (line_of_lem line plan draft.marks (o.plan ∙ same) o.marks) i)) ∙ by_marks (Ok draft.marks) q)
 
-      not_opened : (e : Refusal) (back : Draft) (after : Held) → NotOpened draft h ws e back after → opening (Err e) after ≡ opens h ws n t ms
+      not_opened : (e : Refusal) (back : Draft) (after : Held) → NotOpened draft h ws e back after → opening (Err e) after ≡ opens_by h ws f
       not_opened e back after o =
           let why : open_refusal plan h ws ≡ Some e = ap (λ (x : Plan). open_refusal x h ws) (sym same) ∙ o.first in
           ap (opening (Err e)) o.memory
           ∙ (ap (λ (r : Option Refusal). opens_with h ws plan r (line_of plan draft.marks)) (sym why) ∙ by_marks (Ok draft.marks) q)
 
       -- the line, or the refusal without the draft
-      pub opened_or_not : (r : Result Line (Refusal × Draft)) (q : Result Line Refusal) (after : Held) → Opens draft h ws r after → MatchResult r (λ l. q ≡ Ok l) (λ e. IsErrAnd q (λ x. x ≡ e.0)) → opening q after ≡ opens h ws n t ms
+      pub opened_or_not : (r : Result Line (Refusal × Draft)) (q : Result Line Refusal) (after : Held) → Opens draft h ws r after → MatchResult r (λ l. q ≡ Ok l) (λ e. IsErrAnd q (λ x. x ≡ e.0)) → opening q after ≡ opens_by h ws f
       opened_or_not (Ok line) q after o e = ap (λ (x : Result Line Refusal). opening x after) e ∙ opened line after o
       opened_or_not (Err refused) (Ok line) after o e = absurd e
       opened_or_not (Err refused) (Err x) after o e = ap (λ (y : Refusal). opening (Err y) after) e ∙ not_opened refused.0 refused.1 after o

@@ -2,7 +2,7 @@ use Rattle.std.proofs.Common.{◌≡◌, Bool, true, false, cond, refl, ◌∙�
 use mir.Val.{bool_byte}
 use Rattle.text.proofs.Chain.{at_arm}
 use Rattle.desk.specs.Wording.{answer_text}
-use Rattle.desk.proofs.writing.put_answer.Goals as goal
+use Rattle.desk.proofs.said.Said.put_answer.Goals as goal
 
 pub returns-in_ok-put_field-in-Announced-2 : goal.returns-in_ok-put_field-in-Announced-2
 returns-in_ok-put_field-in-Announced-2 c =
