@@ -1,10 +1,10 @@
 -- Bodies that stand once they are set.
-use Rattle.std.proofs.Common.{◌≡◌, ℕ, Bool, true, false, eqb, ◌⊎◌, is_some as option_is_some, Some, None, Option, sym, refl, ap, inl, inr, ⊎_elim, arith}
+use Rattle.std.proofs.Common.{◌≡◌, ℕ, Bool, true, false, cond, eqb, ◌⊎◌, is_some as option_is_some, Some, None, Option, sym, refl, ap, inl, inr, ⊎_elim}
 use Rattle.std.proofs.lemmas.Bool.{both_ways, eqb-true, eq-eqb}
 use Rattle.agreement.specs.Records.{has, when, hear}
 
 pub none_some : (o : Option ℕ) (b : ℕ) → o ≡ None → o ≡ Some b → ⊥
-none_some o b p q = let z : ◌≡◌ {A = ℕ} 0 1 = cc in omega arith
+none_some o b p q = cc
 
 pub some_once : (o : Option ℕ) (b c : ℕ) → o ≡ Some b → o ≡ Some c → b ≡ c
 some_once o b c p q = cc
@@ -14,7 +14,7 @@ has_some None b h = absurd (both_ways false refl h)
 has_some (Some c) b h = ap Some (eqb-true c b h)
 
 pub some_has : (o : Option ℕ) (b : ℕ) → o ≡ Some b → has o b ≡ true
-some_has None b h = absurd (none_some None b refl h)
+some_has None b h = absurd cc
 some_has (Some c) b h = eq-eqb c b (some_once (Some c) c b refl h)
 
 pub some_of : (o : Option ℕ) → option_is_some o ≡ true → (b : ℕ) × (o ≡ Some b)
@@ -24,9 +24,14 @@ some_of (Some b) h = (b, refl)
 pub is_some : (o : Option ℕ) (b : ℕ) → o ≡ Some b → option_is_some o ≡ true
 is_some o b e = ap option_is_some e
 
+-- a body that a test lets through
+pub some_if : (q : Bool) (o : Option ℕ) (b : ℕ) → cond q o None ≡ Some b → (q ≡ true) × (o ≡ Some b)
+some_if true o b e = (refl, e)
+some_if false o b e = absurd cc
+
 pub when_stays : (q : Bool) (o : Option ℕ) (b c : ℕ) → o ≡ Some c → when q o b ≡ Some c
 when_stays false o b c e = e
-when_stays true None b c e = absurd (none_some None c refl e)
+when_stays true None b c e = absurd cc
 when_stays true (Some d) b c e = e
 
 pub when_keeps : (q : Bool) (o : Option ℕ) (b : ℕ) → option_is_some o ≡ true → option_is_some (when q o b) ≡ true
@@ -40,7 +45,7 @@ when_some true (Some c) b e = refl
 pub when_set : (q : Bool) (o : Option ℕ) (b : ℕ) → q ≡ true → o ≡ None → when q o b ≡ Some b
 when_set false o b e n = absurd (both_ways false refl e)
 when_set true None b e n = refl
-when_set true (Some c) b e n = absurd (none_some (Some c) c n refl)
+when_set true (Some c) b e n = absurd cc
 
 pub when_from : (q : Bool) (o : Option ℕ) (b c : ℕ) → when q o b ≡ Some c → (o ≡ Some c) ⊎ ((q ≡ true) × (b ≡ c))
 when_from false o b c e = inl e

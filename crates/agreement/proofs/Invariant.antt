@@ -1,5 +1,5 @@
 -- What holds of one subject in every state of a run, and why no turn ends it.
-use Rattle.std.proofs.Common.{◌≡◌, ℕ, ◌≤◌, Bool, true, false, cond, eqb, ◌⊎◌, Some, None, Option, refl, ◌∙◌, inl, inr, ⊎_elim, arith}
+use Rattle.std.proofs.Common.{◌≡◌, ℕ, ◌≤◌, true, cond, eqb, ◌⊎◌, Some, None, Option, ◌∙◌, inl, inr, ⊎_elim, arith}
 use Rattle.std.proofs.lemmas.Bool.{cond-true}
 use Rattle.protocol.specs.declared.messages.Step.{Step}
 use Rattle.protocol.specs.declared.messages.Step.TheVariants.{Initial, Echo, Ready}
@@ -8,7 +8,7 @@ use Rattle.protocol.specs.Messages.{originator_of}
 use Rattle.agreement.specs.Worlds.{World, Correct, Lawful}
 use Rattle.agreement.specs.Records.{support}
 use Rattle.agreement.specs.Runs.{State}
-use Rattle.agreement.proofs.Bodies.{none_some}
+use Rattle.agreement.proofs.Bodies.{some_if}
 use Rattle.agreement.proofs.Weights.{backing, support_backed, backing_grows, backer, supporter, quorum_heavy}
 use Rattle.agreement.proofs.Handler.{Moves, CaughtUp, Quorum, heard, settled}
 use Rattle.agreement.proofs.Waiting.{waits}
@@ -46,11 +46,6 @@ pub record Inv (w : World) (s : Subject) (st : State) : Type 0 where
   -- What a correct process sent to another waits, or was heard, or is not needed any more.
   pub sent : (k i : ℕ) (step : Step) (b : ℕ) → Correct w k → Correct w i → says st s k step ≡ Some b → waits st.waiting k i step s b ⊎ (settled (st.recs i s) step k ≡ true)
 
--- an originator tells its own
-pub tells : (q : Bool) (o : Option ℕ) (b : ℕ) → cond q o None ≡ Some b → (q ≡ true) × (o ≡ Some b)
-tells true o b e = (refl, e)
-tells false o b e = absurd (none_some None b refl e)
-
 module _ (w : World) (law : Lawful w) (s : Subject) (st : State) (inv : Inv w s st) where
   -- a body with an echo quorum behind it was told by a correct originator
   pub quorum_told : (b : ℕ) → Correct w (originator_of s) → w.echo ≤ backing w (echoes st s) b → st.said s ≡ Some b
@@ -61,7 +56,7 @@ module _ (w : World) (law : Lawful w) (s : Subject) (st : State) (inv : Inv w s 
   module _ (next : State) (seen : Seen w s st next) where
     grows : (k : ℕ) (step : Step) (b : ℕ) → Correct w k → says st s k step ≡ Some b → says next s k step ≡ Some b
     grows k Initial b c e =
-        let t = tells (eqb k (originator_of s)) (st.said s) b e in
+        let t = some_if (eqb k (originator_of s)) (st.said s) b e in
         cond-true (eqb k (originator_of s)) (next.said s) None t.0 ∙ seen.said_stays b t.1
     grows k Echo b c e = (seen.moves k c).echoed_stays b e
     grows k Ready b c e = (seen.moves k c).readied_stays b e
@@ -88,7 +83,7 @@ module _ (w : World) (law : Lawful w) (s : Subject) (st : State) (inv : Inv w s 
           ⊎_elim (λ x. omega (arith, inv.accepted i b ci x, backing_grows w law (readies st s) (readies next s) b (λ k c e. grows k Ready b c e))) (λ x. omega (arith, support_backed w law (next.recs i s).ready (readies next s) b (λ k ck e. grows k Ready b ck (voted i k Ready b ci ck e))))
           ((seen.moves i ci).accepted_from b e);
       echoed = λ i b co ci e.
-          seen.said_stays b (⊎_elim (inv.echoed i b co ci) (⊎_elim (λ m. (tells _ _ b (inv.posted (originator_of s) i Initial b co m)).1) (λ q. quorum_told b co (quorum_backed i b ci q))) ((seen.moves i ci).echoed_from b e));
+          seen.said_stays b (⊎_elim (inv.echoed i b co ci) (⊎_elim (λ m. (some_if _ _ b (inv.posted (originator_of s) i Initial b co m)).1) (λ q. quorum_told b co (quorum_backed i b ci q))) ((seen.moves i ci).echoed_from b e));
       caught_up = λ i ci. (seen.moves i ci).caught_up (inv.caught_up i ci);
       sent = λ k i step b ck ci e.
           ⊎_elim (λ x. ⊎_elim (seen.stays k i step b ci x) (λ y. inr ((seen.moves i ci).settled_stays step k y)) (inv.sent k i step b ck ci x)) inl (seen.sent k i step b ck ci e);

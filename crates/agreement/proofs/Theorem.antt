@@ -13,11 +13,11 @@ use Rattle.agreement.specs.Worlds.{World, Lawful}
 use Rattle.agreement.specs.Records.{Rec, support, receive, unless, handle}
 use Rattle.agreement.specs.Runs.{State, Turn, tell, forge, drop, deliver, Run, begun, after, start, blank, to_all, spread, delivered}
 use Rattle.agreement.specs.Broadcasts.{Broadcasts, Lasts}
-use Rattle.agreement.proofs.Bodies.{none_some, when_stays}
+use Rattle.agreement.proofs.Bodies.{none_some, some_if, when_stays}
 use Rattle.agreement.proofs.Weights.{quorum_heavy}
 use Rattle.agreement.proofs.Handler.{CaughtUp, heard}
 use Rattle.agreement.proofs.Waiting.{waits_none}
-use Rattle.agreement.proofs.Invariant.{Inv, says, tells, kept}
+use Rattle.agreement.proofs.Invariant.{Inv, says, kept}
 use Rattle.agreement.proofs.Results.{accept_alike, accept_told, accept_total, told_accepted}
 use Rattle.agreement.proofs.Turns.{seen}
 
@@ -32,21 +32,21 @@ module _ (w : World) (law : Lawful w) where
   }
 
   silent : (s : Subject) (k : ℕ) (step : Step) (b : ℕ) → says start s k step ≡ Some b → ⊥
-  silent s k Initial b e = none_some None b refl (tells _ None b e).1
-  silent s k Echo b e = none_some None b refl e
-  silent s k Ready b e = none_some None b refl e
+  silent s k Initial b e = none_some None b refl (some_if _ None b e).1
+  silent s k Echo b e = cc
+  silent s k Ready b e = cc
 
   deaf : (k : ℕ) (step : Step) (b : ℕ) → heard blank step k ≡ Some b → ⊥
-  deaf k Initial b e = none_some None b refl e
-  deaf k Echo b e = none_some None b refl e
-  deaf k Ready b e = none_some None b refl e
+  deaf k Initial b e = cc
+  deaf k Echo b e = cc
+  deaf k Ready b e = cc
 
   at_start : (s : Subject) → Inv w s start
   at_start s = record {
     posted = λ k i step b ck h. absurd (waits_none k i step s b h);
     recorded = λ i k step b ci ck e. absurd (deaf k step b e);
-    readied = λ i b ci e. absurd (none_some None b refl e);
-    accepted = λ i b ci e. absurd (none_some None b refl e);
+    readied = λ i b ci e. absurd cc;
+    accepted = λ i b ci e. absurd cc;
     echoed = λ i b co ci e. e;
     caught_up = λ i ci. blank_caught_up;
     sent = λ k i step b ck ci e. absurd (silent s k step b e);

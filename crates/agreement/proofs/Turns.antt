@@ -11,10 +11,10 @@ use Rattle.protocol.proofs.Bags.{same_sym}
 use Rattle.agreement.specs.Worlds.{World, Correct, Lawful}
 use Rattle.agreement.specs.Records.{Rec, when, handle}
 use Rattle.agreement.specs.Runs.{State, Turn, tell, forge, drop, deliver, same_subject, to_all, spread, delivered, answers, told, leaving, received}
-use Rattle.agreement.proofs.Bodies.{when_stays, when_set, when_from}
+use Rattle.agreement.proofs.Bodies.{some_if, when_stays, when_set, when_from}
 use Rattle.agreement.proofs.Handler.{Moves, stands, handle_moves, handle_settles, due, settled}
 use Rattle.agreement.proofs.Waiting.{waits, waits_same, waits_here, waits_there, waits_cons, waits_left, waits_right, waits_append, to_all_waits, to_all_told, Told, told_gives, Is, spread_told, spread_waits, same_subject_true, subject_same}
-use Rattle.agreement.proofs.Invariant.{Seen, says, tells}
+use Rattle.agreement.proofs.Invariant.{Seen, says}
 
 module _ (w : World) (law : Lawful w) (st : State) where
   -- a turn that changes only what waits: nothing new of correct processes, and all that waits for them stays
@@ -83,7 +83,7 @@ module _ (w : World) (law : Lawful w) (st : State) where
       where
         sent_now : (k i : ℕ) (step : Step) (c : ℕ) → Correct w k → Correct w i → says next u k step ≡ Some c → (says st u k step ≡ Some c) ⊎ waits left k i step u c
         sent_now k i Initial c ck ci e =
-            let t = tells (eqb k (originator_of u)) (when (same_subject u s) (st.said u) b) c e in
+            let t = some_if (eqb k (originator_of u)) (when (same_subject u s) (st.said u) b) c e in
             ⊎_elim (λ x. inl (cond-true _ _ None t.0 ∙ x)) (λ x.
             let is = same_subject_true u s x.0 in
             let as_told : Told (originator_of s) Initial s b k Initial u c = record { from = ap originator_of (sym is) ∙ sym (eqb-true _ _ t.0); at = refl; of = sym is; holds = x.1 } in
@@ -142,7 +142,7 @@ module _ (w : World) (law : Lawful w) (st : State) where
       sent_elsewhere u k Ready e = ap (λ (r : Rec). r.readied) (cond-false _ _ _ e)
 
       says_due : (u : Subject) (k : ℕ) (step : Step) (c : ℕ) → says st u k step ≡ Some c → due (originator_of u) step k ≡ true
-      says_due u k Initial c e = (tells _ _ c e).0
+      says_due u k Initial c e = (some_if _ _ c e).0
       says_due u k Echo c e = refl
       says_due u k Ready c e = refl
 
@@ -172,7 +172,7 @@ module _ (w : World) (law : Lawful w) (st : State) where
 
 -- every turn is seen by every subject
 pub seen : (w : World) (law : Lawful w) (st next : State) → Turn w st next → (u : Subject) → Seen w u st next
-seen w law st next (tell s b left co fresh same) u = by_tell w law st s b left co fresh same u
-seen w law st next (forge m left lt bad same) u = by_forge w law st u m left bad same
-seen w law st next (drop m left lt bad same) u = by_drop w law st u m left bad same
-seen w law st next (deliver m rest left ci taken same) u = by_deliver w law st m rest left taken same u
+seen w law st after (tell s b left co fresh same) u = by_tell w law st s b left co fresh same u
+seen w law st after (forge m left lt bad same) u = by_forge w law st u m left bad same
+seen w law st after (drop m left lt bad same) u = by_drop w law st u m left bad same
+seen w law st after (deliver m rest left ci taken same) u = by_deliver w law st m rest left taken same u

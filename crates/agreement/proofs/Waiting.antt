@@ -10,10 +10,10 @@ use Rattle.protocol.specs.declared.messages.Subject.TheVariants.{Item, Ballot}
 use Rattle.protocol.specs.Bags.{count, Same}
 use Rattle.protocol.specs.Messages.{message}
 use Rattle.protocol.proofs.Bags.{count_none, count_cons, count_append}
+use Rattle.protocol.proofs.Counting.{one_more}
 use Rattle.protocol.proofs.Parts.{sender_of, addressee_of, step_of, subject_of, body_of}
 use Rattle.agreement.specs.Runs.{same_subject, to_all, spread}
 use Rattle.agreement.proofs.Bodies.{some_once}
-use Rattle.agreement.proofs.Counts.{one_more}
 
 pub same_subject_true : (s u : Subject) → same_subject s u ≡ true → s ≡ u
 same_subject_true (Item i s) (Item j u) h = let e = and_parts _ _ h in ap₂ Item (eqb-true i j e.0) (eqb-true s u e.1)

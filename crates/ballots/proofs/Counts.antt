@@ -1,8 +1,8 @@
 -- Counting the ballots of a row. Assumes nothing.
-use Rattle.std.proofs.Common.{◌≡◌, ℕ, zero, suc, ◌+◌, ◌<◌, ◌≤◌, Bool, true, false, cond, ◌&&◌, is_some, Some, None, Option, refl, ap, ⊎_elim, arith}
-use Rattle.std.proofs.lemmas.Bool.{eqb-true, cases_lt}
+use Rattle.std.proofs.Common.{◌≡◌, ℕ, zero, suc, ◌+◌, ◌≤◌, Bool, true, false, cond, ◌&&◌, is_some, Some, None, Option, refl, ap, arith}
+use Rattle.std.proofs.lemmas.Bool.{eqb-true}
 use Rattle.protocol.specs.Counting.{below}
-use Rattle.protocol.proofs.Counting.{below_suc}
+use Rattle.protocol.proofs.Counting.{below_past}
 use Rattle.protocol.specs.declared.votes.Ballot.{Ballot}
 use Rattle.protocol.specs.declared.votes.Ballot.TheVariants.{Keep, Release, ProposeKeep, ProposeRelease, Open}
 use Rattle.protocol.specs.Numbers.{ballot_number, ballot_of}
@@ -22,14 +22,6 @@ same_ballot b c e = let x = ballot_of_lem b in let y = ballot_of_lem c in let z 
 pub says_some : (b : Ballot) (o : Option Ballot) → says b o ≡ true → o ≡ Some b
 says_some b None e = absurd cc
 says_some b (Some c) e = ap Some (same_ballot c b (eqb-true _ _ e))
-
-pub below_zero : (n : ℕ) (p : ℕ → Bool) → ((k : ℕ) → k < n → p k ≡ false) → below n p ≡ 0
-unfolding below
-below_zero zero p h = refl
-below_zero (suc n) p h =
-    let e = below_zero n p (λ k l. h k (omega arith)) in
-    let f : ◌≡◌ {A = ℕ} (cond (p n) 1 0) 0 = ap (λ (z : Bool). cond z 1 0) (h n (omega arith)) in
-    omega arith
 
 abbrev pub total : ByBallot ℕ → ℕ
 total x = x.keep + x.release + x.propose_keep + x.propose_release + x.«open»
@@ -59,12 +51,6 @@ counts_amount n g Open = refl
 pub says_only : (b : Ballot) (s : Bool) (o : Option Ballot) → says b (cond s o None) ≡ (s && says b o)
 says_only b true o = refl
 says_only b false o = refl
-
--- what fails from n on is not counted
-pub below_past : (m n : ℕ) (p : ℕ → Bool) → n ≤ m → ((k : ℕ) → n ≤ k → p k ≡ false) → below m p ≡ below n p
-below_past zero n p l none = ap (λ (k : ℕ). below k p) (omega arith)
-below_past (suc m) n p l none =
-    ⊎_elim (λ (x : m < n). let e : suc m ≡ n = omega arith in ap (λ (k : ℕ). below k p) e) (λ (x : n ≤ m). let f : ◌≡◌ {A = ℕ} (cond (p m) 1 0) 0 = ap (λ (z : Bool). cond z 1 0) (none m x) in omega (arith, below_suc m p, below_past m n p x none)) (cases_lt m n)
 
 pub counts_past : (m n : ℕ) (g : ℕ → Option Ballot) → n ≤ m → ((k : ℕ) → n ≤ k → g k ≡ None) → counts m g ≡ counts n g
 counts_past m n g l none = λ i. record { keep = past Keep i; release = past Release i; propose_keep = past ProposeKeep i; propose_release = past ProposeRelease i; «open» = past Open i }

@@ -7,7 +7,10 @@ use Rattle.protocol.specs.declared.votes.Side.{Side}
 use Rattle.protocol.specs.declared.votes.Side.TheVariants as side
 use Rattle.protocol.specs.declared.votes.Ballot.{Ballot}
 use Rattle.protocol.specs.declared.votes.Ballot.TheVariants.{Keep, Release, ProposeKeep, ProposeRelease, Open}
-use Rattle.consensus.specs.Rounds.{Kind, First, Second, Third, ahead, Allows}
+use Rattle.protocol.specs.declared.votes.Kind.{Kind}
+use Rattle.protocol.specs.declared.votes.Kind.TheVariants.{First, Second, Third}
+use Rattle.consensus.specs.Rounds.{ahead, Allows}
+use Rattle.consensus.proofs.Sides.{both_sides, keep_ahead, release_ahead}
 use Rattle.ballots.specs.Tallies.{amount}
 use Rattle.ballots.proofs.Counts.{total}
 use Rattle.ballots.specs.Votes.{after, takes}
@@ -32,31 +35,28 @@ some_votes k r = record { keep = k; release = r; propose_keep = 0; propose_relea
 some_proposals : ℕ → ℕ → ℕ → ByBallot ℕ
 some_proposals k r o = record { keep = 0; release = 0; propose_keep = k; propose_release = r; «open» = o }
 
-votes_within : (c : ByBallot ℕ) (k r : ℕ) → k ≤ c.keep → r ≤ c.release → (d : Ballot) → amount (some_votes k r) d ≤ amount c d
-unfolding some_votes
-votes_within c k r x y Keep = x
-votes_within c k r x y Release = y
-votes_within c k r x y ProposeKeep = omega arith
-votes_within c k r x y ProposeRelease = omega arith
-votes_within c k r x y Open = omega arith
+module _ {n t : ℕ} {q : Kind} {c : ByBallot ℕ} {b : ℕ} where
+  votes_draw : (k r : ℕ) → k ≤ c.keep → r ≤ c.release → k + r ≡ n - t → Allows n t q (amount (some_votes k r)) b → Draw n t q c b
+  unfolding some_votes
+  votes_draw k r x y size allows = record { of = some_votes k r; within = within; size = omega (arith, size); allows = allows }
+    where
+      within : (d : Ballot) → amount (some_votes k r) d ≤ amount c d
+      within Keep = x
+      within Release = y
+      within ProposeKeep = omega arith
+      within ProposeRelease = omega arith
+      within Open = omega arith
 
-proposals_within : (c : ByBallot ℕ) (k r o : ℕ) → k ≤ c.propose_keep → r ≤ c.propose_release → o ≤ c.«open» → (d : Ballot) → amount (some_proposals k r o) d ≤ amount c d
-unfolding some_proposals
-proposals_within c k r o x y z Keep = omega arith
-proposals_within c k r o x y z Release = omega arith
-proposals_within c k r o x y z ProposeKeep = x
-proposals_within c k r o x y z ProposeRelease = y
-proposals_within c k r o x y z Open = z
-
-both_sides : (P : Side → Type 0) → P side.Keep → P side.Release → (v : Side) → P v
-both_sides P a b side.Keep = a
-both_sides P a b side.Release = b
-
-keep_ahead : (x : ByBallot ℕ) → x.release ≤ x.keep → ahead (amount x) ≡ side.Keep
-keep_ahead x l = ap (λ (z : Bool). cond z side.Release side.Keep) (le-ltb _ _ l)
-
-release_ahead : (x : ByBallot ℕ) → x.keep < x.release → ahead (amount x) ≡ side.Release
-release_ahead x l = ap (λ (z : Bool). cond z side.Release side.Keep) (lt-ltb _ _ l)
+  proposals_draw : (k r o : ℕ) → k ≤ c.propose_keep → r ≤ c.propose_release → o ≤ c.«open» → k + r + o ≡ n - t → Allows n t q (amount (some_proposals k r o)) b → Draw n t q c b
+  unfolding some_proposals
+  proposals_draw k r o x y z size allows = record { of = some_proposals k r o; within = within; size = omega (arith, size); allows = allows }
+    where
+      within : (d : Ballot) → amount (some_proposals k r o) d ≤ amount c d
+      within Keep = omega arith
+      within Release = omega arith
+      within ProposeKeep = x
+      within ProposeRelease = y
+      within Open = z
 
 -- a ballot of number b that is among those that are allowed
 pub record Taken (a : ByBallot Bool) (b : ℕ) : Type 0 where
@@ -71,24 +71,12 @@ module _ (n t : ℕ) where
       let k = min c.keep (n - t) in
       let many : n - t ≤ c.keep + c.release = grind (arith, nat_tests) in
       let half : n - t ≤ 2 * k = grind (arith, nat_tests) in
-      let x = some_votes k (n - t - k) in
-      record {
-        of = x;
-        within = votes_within c k (n - t - k) (omega arith) (omega arith);
-        size = omega arith;
-        allows = sym (ap (λ v. ballot_number (vote v)) (keep_ahead x (omega arith)));
-      }
+      votes_draw k (n - t - k) (omega arith) (omega arith) (omega arith) (sym (ap (λ v. ballot_number (vote v)) (keep_ahead (amount (some_votes k (n - t - k))) (omega arith))))
   drawn_first c Release e =
       let r = min c.release (n - t) in
       let many : n - t ≤ c.keep + c.release = grind (arith, nat_tests) in
       let half : n - t < 2 * r = grind (arith, nat_tests) in
-      let x = some_votes (n - t - r) r in
-      record {
-        of = x;
-        within = votes_within c (n - t - r) r (omega arith) (omega arith);
-        size = omega arith;
-        allows = sym (ap (λ v. ballot_number (vote v)) (release_ahead x (omega arith)));
-      }
+      votes_draw (n - t - r) r (omega arith) (omega arith) (omega arith) (sym (ap (λ v. ballot_number (vote v)) (release_ahead (amount (some_votes (n - t - r) r)) (omega arith))))
   drawn_first c ProposeKeep e = absurd cc
   drawn_first c ProposeRelease e = absurd cc
   drawn_first c Open e = absurd cc
@@ -101,32 +89,17 @@ module _ (n t : ℕ) where
       let k = min c.keep (n - t) in
       let many : n - t ≤ c.keep + c.release = grind (arith, nat_tests) in
       let most : n < 2 * k = grind (arith, nat_tests) in
-      record {
-        of = some_votes k (n - t - k);
-        within = votes_within c k (n - t - k) (omega arith) (omega arith);
-        size = omega arith;
-        allows = inl (side.Keep, omega arith, refl);
-      }
+      votes_draw k (n - t - k) (omega arith) (omega arith) (omega arith) (inl (side.Keep, omega arith, refl))
   drawn_second c ProposeRelease e =
       let r = min c.release (n - t) in
       let many : n - t ≤ c.keep + c.release = grind (arith, nat_tests) in
       let most : n < 2 * r = grind (arith, nat_tests) in
-      record {
-        of = some_votes (n - t - r) r;
-        within = votes_within c (n - t - r) r (omega arith) (omega arith);
-        size = omega arith;
-        allows = inl (side.Release, omega arith, refl);
-      }
+      votes_draw (n - t - r) r (omega arith) (omega arith) (omega arith) (inl (side.Release, omega arith, refl))
   drawn_second c Open e =
       let few = leb-true _ _ e in
       let k = min (min c.keep (n / 2)) (n - t) in
       let r = n - t - k in
-      record {
-        of = some_votes k r;
-        within = votes_within c k r (omega arith) (omega arith);
-        size = omega arith;
-        allows = inr (both_sides (λ v. 2 * amount (some_votes k r) (vote v) ≤ n) (omega arith) (omega arith), refl);
-      }
+      votes_draw k r (omega arith) (omega arith) (omega arith) (inr (both_sides (λ v. 2 * amount (some_votes k r) (vote v) ≤ n) (omega arith) (omega arith), refl))
 
   -- neither side has more than t, and any may be said
   tossed_third : (c : ByBallot ℕ) (v : Side) → n - t ≤ min c.propose_keep t + min c.propose_release t + c.«open» → Draw n t Third c (ballot_number (vote v))
@@ -135,12 +108,7 @@ module _ (n t : ℕ) where
       let k = min (min c.propose_keep t) (n - t) in
       let r = min (min c.propose_release t) (n - t - k) in
       let o = n - t - k - r in
-      record {
-        of = some_proposals k r o;
-        within = proposals_within c k r o (omega arith) (omega arith) (omega arith);
-        size = omega arith;
-        allows = inr (both_sides (λ u. amount (some_proposals k r o) (proposal u) ≤ t) (omega arith) (omega arith), (v, refl));
-      }
+      proposals_draw k r o (omega arith) (omega arith) (omega arith) (omega arith) (inr (both_sides (λ u. amount (some_proposals k r o) (proposal u) ≤ t) (omega arith) (omega arith), (v, refl)))
 
   drawn_third : (c : ByBallot ℕ) (b : Ballot) → takes (after n t Third c) b ≡ true → Draw n t Third c (ballot_number b)
   unfolding after some_proposals
@@ -153,12 +121,7 @@ module _ (n t : ℕ) where
           let most : t < k = grind (arith, nat_tests) in
           let r = min c.propose_release (n - t - k) in
           let o = n - t - k - r in
-          record {
-            of = some_proposals k r o;
-            within = proposals_within c k r o (omega arith) (omega arith) (omega arith);
-            size = omega arith;
-            allows = inl (side.Keep, omega arith, refl);
-          }
+          proposals_draw k r o (omega arith) (omega arith) (omega arith) (omega arith) (inl (side.Keep, omega arith, refl))
   drawn_third c Release e = ⊎_elim forced (λ x. tossed_third c side.Release (leb-true _ _ x)) (or_cases _ _ e)
     where
       forced : (leb (n - t) (c.propose_keep + c.propose_release + c.«open») && ltb t (min c.propose_release (n - t))) ≡ true → Draw n t Third c 1
@@ -168,12 +131,7 @@ module _ (n t : ℕ) where
           let most : t < r = grind (arith, nat_tests) in
           let k = min c.propose_keep (n - t - r) in
           let o = n - t - k - r in
-          record {
-            of = some_proposals k r o;
-            within = proposals_within c k r o (omega arith) (omega arith) (omega arith);
-            size = omega arith;
-            allows = inl (side.Release, omega arith, refl);
-          }
+          proposals_draw k r o (omega arith) (omega arith) (omega arith) (omega arith) (inl (side.Release, omega arith, refl))
   drawn_third c ProposeKeep e = absurd cc
   drawn_third c ProposeRelease e = absurd cc
   drawn_third c Open e = absurd cc
@@ -195,78 +153,48 @@ module _ (n t : ℕ) where
         behind : d.of.keep < d.of.release → Taken (after n t First c) b
         behind l =
             let w = drawn_from d in
-            record {
-              is = Release;
-              number = d.allows ∙ ap (λ v. ballot_number (vote v)) (release_ahead d.of l);
-              allowed = grind (arith, nat_tests);
-            }
+            record { is = Release; number = d.allows ∙ ap (λ v. ballot_number (vote v)) (release_ahead (amount d.of) l); allowed = grind (arith, nat_tests) }
 
         even : d.of.release ≤ d.of.keep → Taken (after n t First c) b
         even l =
             let w = drawn_from d in
-            record {
-              is = Keep;
-              number = d.allows ∙ ap (λ v. ballot_number (vote v)) (keep_ahead d.of l);
-              allowed = grind (arith, nat_tests);
-            }
+            record { is = Keep; number = d.allows ∙ ap (λ v. ballot_number (vote v)) (keep_ahead (amount d.of) l); allowed = grind (arith, nat_tests) }
 
     taken_second : OfKind Second c → Draw n t Second c b → Taken (after n t Second c) b
     unfolding after
-    taken_second none d = ⊎_elim (λ a. most a.0 a.1 a.2) few d.allows
+    taken_second none d =
+        ⊎_elim (λ a. record { is = proposal a.0; number = a.2; allowed = most a.0 a.1 }) (λ a. record { is = Open; number = a.1; allowed = few a.0 }) d.allows
       where
-        most : (v : Side) → n < 2 * amount d.of (vote v) → b ≡ ballot_number (proposal v) → Taken (after n t Second c) b
-        most side.Keep l e =
-            let w = drawn_from d in
-            record {
-              is = ProposeKeep;
-              number = e;
-              allowed = grind (arith, nat_tests);
-            }
-        most side.Release l e =
-            let w = drawn_from d in
-            record {
-              is = ProposeRelease;
-              number = e;
-              allowed = grind (arith, nat_tests);
-            }
+        most : (v : Side) → n < 2 * amount d.of (vote v) → takes (after n t Second c) (proposal v) ≡ true
+        most side.Keep l = let w = drawn_from d in grind (arith, nat_tests)
+        most side.Release l = let w = drawn_from d in grind (arith, nat_tests)
 
-        few : (((v : Side) → 2 * amount d.of (vote v) ≤ n) × (b ≡ ballot_number Open)) → Taken (after n t Second c) b
+        few : ((v : Side) → 2 * amount d.of (vote v) ≤ n) → takes (after n t Second c) Open ≡ true
         few f =
             let w = drawn_from d in
-            let k = f.0 side.Keep in
-            let r = f.0 side.Release in
-            record { is = Open; number = f.1; allowed = grind (arith, nat_tests) }
+            let k = f side.Keep in
+            let r = f side.Release in
+            grind (arith, nat_tests)
 
     taken_third : OfKind Third c → Draw n t Third c b → Taken (after n t Third c) b
     unfolding after
-    taken_third none d = ⊎_elim (λ a. forced a.0 a.1 a.2) (λ a. tossed a.1.0 a.0 a.1.1) d.allows
+    taken_third none d =
+        ⊎_elim (λ a. record { is = vote a.0; number = a.2; allowed = forced a.0 a.1 }) (λ a. record { is = vote a.1.0; number = a.1.1; allowed = tossed a.1.0 a.0 }) d.allows
       where
-        forced : (v : Side) → t < amount d.of (proposal v) → b ≡ ballot_number (vote v) → Taken (after n t Third c) b
-        forced side.Keep l e =
-            let w = drawn_from d in
-            record {
-              is = Keep;
-              number = e;
-              allowed = grind (arith, nat_tests);
-            }
-        forced side.Release l e =
-            let w = drawn_from d in
-            record {
-              is = Release;
-              number = e;
-              allowed = grind (arith, nat_tests);
-            }
+        forced : (v : Side) → t < amount d.of (proposal v) → takes (after n t Third c) (vote v) ≡ true
+        forced side.Keep l = let w = drawn_from d in grind (arith, nat_tests)
+        forced side.Release l = let w = drawn_from d in grind (arith, nat_tests)
 
         few : ((v : Side) → amount d.of (proposal v) ≤ t) → leb (n - t) (min c.propose_keep t + min c.propose_release t + c.«open») ≡ true
         few f =
             let w = drawn_from d in
             let k = f side.Keep in
             let r = f side.Release in
-            le-leb (n - t) (min c.propose_keep t + min c.propose_release t + c.«open») (omega arith)
+            le-leb _ _ (omega arith)
 
-        tossed : (v : Side) → ((u : Side) → amount d.of (proposal u) ≤ t) → b ≡ ballot_number (vote v) → Taken (after n t Third c) b
-        tossed side.Keep f e = record { is = Keep; number = e; allowed = or_right _ _ (few f) }
-        tossed side.Release f e = record { is = Release; number = e; allowed = or_right _ _ (few f) }
+        tossed : (v : Side) → ((u : Side) → amount d.of (proposal u) ≤ t) → takes (after n t Third c) (vote v) ≡ true
+        tossed side.Keep f = or_right _ _ (few f)
+        tossed side.Release f = or_right _ _ (few f)
 
   pub taken : (q : Kind) (c : ByBallot ℕ) (b : ℕ) → OfKind q c → Draw n t q c b → Taken (after n t q c) b
   taken First = taken_first

@@ -1,7 +1,6 @@
 pub mod Arrays
 pub mod Counts
 pub mod Draws
-pub mod InPhase
 pub mod Sifting
 pub mod Sets
 pub mod Theorem

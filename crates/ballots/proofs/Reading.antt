@@ -1,13 +1,14 @@
 -- Rows of the ballots of a memory. Assumes nothing.
 use Rattle.std.proofs.Common.{◌≡◌, ℕ, zero, suc, ◌+◌, ◌-◌, ◌*◌, ◌<◌, ◌≤◌, Bool, true, ltb, List, None, Option, sym, ap, ◌∙◌, subst, arith}
 use Rattle.std.proofs.lemmas.Bool.Decides.{nat_tests}
-use Rattle.std.proofs.lemmas.Bool.{cond-true, cond-false, le-ltb, and_left}
+use Rattle.std.proofs.lemmas.Bool.{cond-true, cond-false, lt-ltb, le-ltb, le-leb, and_from, and_left}
 use Rattle.protocol.specs.declared.messages.Subject.TheVariants as subject
 use Rattle.protocol.specs.declared.votes.Ballot.{Ballot}
 use Rattle.plan.specs.declared.plans.Plan.{Plan}
 use Rattle.memory.specs.Contents.{Held}
 use Rattle.memory.specs.Places.{enough, within}
-use Rattle.consensus.specs.Rounds.{Accepted, kind}
+use Rattle.protocol.specs.Phases.{kind}
+use Rattle.consensus.specs.Rounds.{Accepted}
 use Rattle.consensus.specs.Validity.{Valid}
 use Rattle.ballots.specs.Places.{body_at, ballots_at, covers, valid_at, ValidRow}
 use Rattle.ballots.specs.Tallies.{cell, Holds, counts}
@@ -24,6 +25,9 @@ module _ (plan : Plan) (h : Held) (i c : ℕ) where
   pub none_behind : (o r : ℕ) → plan.n ≤ o → ballots_at plan h i c o r ≡ None
   unfolding ballots_at
   none_behind o r l = cond-false (within plan (subject.Ballot o c (suc r))) _ None (and_left (ltb o plan.n) _ (le-ltb o plan.n l))
+
+pub ballot_within : (plan : Plan) (o c r : ℕ) → o < plan.n → c < plan.cases → 1 ≤ r → r ≤ 3 * plan.phases → within plan (subject.Ballot o c r) ≡ true
+ballot_within plan o c r a b first last = and_from _ _ (lt-ltb _ _ a) (and_from _ _ (lt-ltb _ _ b) (and_from _ _ (le-leb _ _ first) (le-leb _ _ last)))
 
 -- what a process, a case and a round have that are covered
 pub record Covered (plan : Plan) (h : Held) (i c r : ℕ) : Type 0 where
@@ -51,10 +55,6 @@ counts_row n g row l none h = ap (counts 16) (holds_is g row h) ∙ counts_past 
 module _ (plan : Plan) (h : Held) (i c : ℕ) where
   abbrev valid : ℕ → ℕ → Option Ballot
   valid r = votes plan.n plan.t (ballots_at plan h i c) r
-
-  pub first_row : (row : List (Option Ballot)) → Holds (λ k. sifted beginning (ballots_at plan h i c k 0)) row → Holds (valid 0) row
-  unfolding votes
-  first_row row x = x
 
   -- a round of the loop: the row of round r is counted, and what it allows is sifted from the round after
   pub next_row :

@@ -1,13 +1,15 @@
 -- The sets of a round and what can be drawn from its counts. Assumes nothing.
-use Rattle.std.proofs.Common.{◌≡◌, ℕ, zero, suc, ◌<◌, ◌≤◌, Bool, true, false, cond, ◌&&◌, eqb, ltb, is_some, Some, None, Option, sym, refl, ap, ◌∙◌, subst, arith}
-use Rattle.std.proofs.lemmas.Bool.{eqb-true}
+use Rattle.std.proofs.Common.{◌≡◌, ℕ, ◌<◌, ◌≤◌, Bool, true, false, cond, ◌&&◌, eqb, ltb, is_some, Some, None, Option, sym, refl, ap, ◌∙◌, subst, arith}
+use Rattle.std.proofs.lemmas.Bool.{eqb-true, and_parts}
+use Rattle.std.proofs.Math.Bool.{and_comm}
 use Rattle.agreement.specs.Records.{has}
 use Rattle.protocol.specs.Counting.{below}
 use Rattle.protocol.specs.Numbers.{ballot_number}
 use Rattle.protocol.specs.declared.votes.Ballot.{Ballot}
 use Rattle.protocol.specs.declared.votes.Ballot.TheVariants.{Keep, Release, ProposeKeep, ProposeRelease, Open}
-use Rattle.protocol.proofs.Counting.{below_alike}
-use Rattle.consensus.specs.Rounds.{Accepted, kind, tally, Allows}
+use Rattle.protocol.proofs.Counting.{below_alike, below_monotone}
+use Rattle.protocol.specs.Phases.{kind}
+use Rattle.consensus.specs.Rounds.{Accepted, tally, Allows}
 use Rattle.consensus.specs.Validity.{Valid, Quorum, lowest}
 use Rattle.consensus.proofs.Advancing.{lowest_size}
 use Rattle.consensus.proofs.Tallies.{held}
@@ -16,16 +18,6 @@ use Rattle.ballots.specs.Votes.{Exactly}
 use Rattle.ballots.specs.declared.tallies.ByBallot.{ByBallot}
 use Rattle.ballots.proofs.Counts.{total, counts_all, counts_amount, same_ballot, says_only}
 use Rattle.ballots.proofs.Draws.{Draw}
-
-one_fewer : (s p : Bool) → cond (s && p) 1 0 ≤ cond p 1 0
-one_fewer true p = omega arith
-one_fewer false true = omega arith
-one_fewer false false = omega arith
-
-pub below_fewer : (n : ℕ) (S p : ℕ → Bool) → below n (λ k. S k && p k) ≤ below n p
-unfolding below
-below_fewer zero S p = omega arith
-below_fewer (suc n) S p = let one = one_fewer (S n) (p n) in omega (arith, below_fewer n S p)
 
 -- the first ones of each ballot, as many as x says
 first_by : ByBallot ℕ → (ℕ → Option Ballot) → ℕ → Option Ballot → Bool
@@ -38,19 +30,11 @@ first_of x g k = first_by x g k (g k)
 first_says : (x : ByBallot ℕ) (g : ℕ → Option Ballot) (k : ℕ) (o : Option Ballot) (b : Ballot) → (first_by x g k o && says b o) ≡ (says b o && ltb (below k (λ j. says b (g j))) (amount x b))
 unfolding first_by
 first_says x g k None b = refl
-first_says x g k (Some c) b = go (eqb (ballot_number c) (ballot_number b)) refl
+first_says x g k (Some c) b = and_comm _ (eqb (ballot_number c) (ballot_number b)) ∙ go (eqb (ballot_number c) (ballot_number b)) refl
   where
-    swap : (p : Bool) → (p && true) ≡ p
-    swap true = refl
-    swap false = refl
-
-    none : (p : Bool) → (p && false) ≡ false
-    none true = refl
-    none false = refl
-
-    go : (e : Bool) → eqb (ballot_number c) (ballot_number b) ≡ e → (ltb (below k (λ j. says c (g j))) (amount x c) && e) ≡ (e && ltb (below k (λ j. says b (g j))) (amount x b))
-    go false h = none _
-    go true h = swap _ ∙ ap (λ (d : Ballot). ltb (below k (λ j. says d (g j))) (amount x d)) (same_ballot c b (eqb-true _ _ h))
+    go : (e : Bool) → eqb (ballot_number c) (ballot_number b) ≡ e → (e && ltb (below k (λ j. says c (g j))) (amount x c)) ≡ (e && ltb (below k (λ j. says b (g j))) (amount x b))
+    go false h = refl
+    go true h = ap (λ (d : Ballot). ltb (below k (λ j. says d (g j))) (amount x d)) (same_ballot c b (eqb-true _ _ h))
 
 first_some : (x : ByBallot ℕ) (g : ℕ → Option Ballot) (k : ℕ) (o : Option Ballot) → first_by x g k o ≡ true → (b : Ballot) × (o ≡ Some b)
 unfolding first_by
@@ -100,7 +84,7 @@ module _ (n t : ℕ) (G : Accepted) (r : ℕ) (g : ℕ → Option Ballot) (exact
           let a = counts_amount n (only S g) d in
           let c = counts_amount n g d in
           let e : below n (λ k. says d (only S g k)) ≡ below n (λ k. S k && says d (g k)) = below_alike n _ _ (λ k l. says_only d (S k) (g k)) in
-          omega (arith, below_fewer n S (λ k. says d (g k)))
+          omega (arith, below_monotone n (λ k. S k && says d (g k)) (λ k. says d (g k)) (λ k l x. (and_parts (S k) _ x).1))
 
   pub from_draw : (b : ℕ) → Draw n t (kind r) (counts n g) b → (S : ℕ → Bool) × Quorum n t G r S × Allows n t (kind r) (tally n G r S) b
   unfolding first_of lowest

@@ -1,9 +1,9 @@
 -- What is left of a body by the test of what is allowed. Assumes nothing.
-use Rattle.std.proofs.Common.{◌≡◌, ℕ, Bool, true, false, cond, eqb, Some, None, Option, sym, refl, ap, ◌∙◌}
-use Rattle.std.proofs.lemmas.Bool.{both_ways, cond-true, eqb-true}
+use Rattle.std.proofs.Common.{◌≡◌, ℕ, Bool, true, false, cond, Some, None, Option, sym, refl, ap, ◌∙◌, arith}
+use Rattle.std.proofs.lemmas.Bool.Decides.{nat_tests}
+use Rattle.std.proofs.lemmas.Bool.{both_ways, cond-true}
 use Rattle.protocol.specs.Numbers.{ballot_number, ballot_of}
 use Rattle.protocol.specs.declared.votes.Ballot.{Ballot}
-use Rattle.protocol.specs.declared.votes.Ballot.TheVariants.{Keep, Release, ProposeKeep, ProposeRelease, Open}
 use Rattle.ballots.specs.Tallies.{says}
 use Rattle.ballots.specs.Votes.{takes, passed, sifted}
 use Rattle.ballots.specs.declared.tallies.ByBallot.{ByBallot}
@@ -11,18 +11,7 @@ use Rattle.ballots.proofs.Counts.{ballot_of_lem, says_some}
 
 -- the number of a ballot
 ballot_number_lem : (c : ℕ) (b : Ballot) → ballot_of c ≡ Some b → c ≡ ballot_number b
-ballot_number_lem c b e = go (eqb c 0) (eqb c 1) (eqb c 2) (eqb c 3) (eqb c 4) refl refl refl refl refl e
-  where
-    is : (k : ℕ) (d : Ballot) → eqb c k ≡ true → k ≡ ballot_number d → Some d ≡ Some b → c ≡ ballot_number b
-    is k d x y z = let w : d ≡ b = cc in eqb-true c k x ∙ y ∙ ap ballot_number w
-
-    go : (p q r s u : Bool) → eqb c 0 ≡ p → eqb c 1 ≡ q → eqb c 2 ≡ r → eqb c 3 ≡ s → eqb c 4 ≡ u → cond p (Some Keep) (cond q (Some Release) (cond r (Some ProposeKeep) (cond s (Some ProposeRelease) (cond u (Some Open) None)))) ≡ Some b → c ≡ ballot_number b
-    go true q r s u v w x y z h = is 0 Keep v refl h
-    go false true r s u v w x y z h = is 1 Release w refl h
-    go false false true s u v w x y z h = is 2 ProposeKeep x refl h
-    go false false false true u v w x y z h = is 3 ProposeRelease y refl h
-    go false false false false true v w x y z h = is 4 Open z refl h
-    go false false false false false v w x y z h = absurd cc
+ballot_number_lem c b e = grind (arith, nat_tests)
 
 module _ (a : ByBallot Bool) where
   pub passed_some : (o : Option Ballot) (b : Ballot) → passed a o ≡ Some b → (o ≡ Some b) × (takes a b ≡ true)

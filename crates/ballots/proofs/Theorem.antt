@@ -2,18 +2,21 @@
 use Rattle.std.proofs.Common.{◌≡◌, ℕ, zero, suc, Bool, true, false, Some, sym, refl, ap, ◌∙◌, subst}
 use Rattle.protocol.specs.Counting.{below}
 use Rattle.protocol.specs.Numbers.{ballot_number, vote}
+use Rattle.protocol.proofs.Counting.{below_zero}
 use Rattle.protocol.specs.declared.votes.Side.{Side}
 use Rattle.protocol.specs.declared.votes.Side.TheVariants as side
 use Rattle.protocol.specs.declared.votes.Ballot.{Ballot}
 use Rattle.protocol.specs.declared.votes.Ballot.TheVariants.{Keep, Release, ProposeKeep, ProposeRelease, Open}
-use Rattle.consensus.specs.Rounds.{Accepted, Kind, First, Second, Third, kind}
+use Rattle.protocol.specs.declared.votes.Kind.{Kind}
+use Rattle.protocol.specs.declared.votes.Kind.TheVariants.{First, Second, Third}
+use Rattle.protocol.specs.Phases.{kind}
+use Rattle.consensus.specs.Rounds.{Accepted}
 use Rattle.consensus.specs.Validity.{Valid}
 use Rattle.consensus.proofs.Sides.{kind_after}
 use Rattle.consensus.proofs.Sides as sides
 use Rattle.ballots.specs.Tallies.{says, counts}
 use Rattle.ballots.specs.Votes.{after, beginning, takes, sifted, votes, Exactly}
 use Rattle.ballots.specs.declared.tallies.ByBallot.{ByBallot}
-use Rattle.ballots.proofs.Counts.{below_zero}
 use Rattle.ballots.proofs.Draws.{OfKind, drawn, taken}
 use Rattle.ballots.proofs.Sets.{to_draw, from_draw}
 use Rattle.ballots.proofs.Sifting.{sifted_some, some_sifted, not_sifted}

@@ -1,5 +1,5 @@
 -- The ballots that a process has accepted in a case. Assumes nothing.
-use Rattle.std.specs.Prelude.{◌≡◌, ℕ, suc, ◌-◌, ◌*◌, Bool, true, false, cond, ◌&&◌, List, None, Option, nat_le, nat_lt}
+use Rattle.std.specs.Prelude.{◌≡◌, ℕ, suc, ◌-◌, Bool, true, false, cond, ◌&&◌, List, None, Option}
 use Rattle.protocol.specs.declared.votes.Ballot.{Ballot}
 use Rattle.protocol.specs.declared.messages.Subject.{Subject}
 use Rattle.protocol.specs.declared.messages.Subject.TheVariants as subject
@@ -21,7 +21,7 @@ ballots_at plan h i c o r = body_at plan h i (subject.Ballot o c (suc r))
 
 -- whether the plan has process i, case c and round r, this one from 1, and the memory is large enough
 abbrev pub covers : Plan → Held → ℕ → ℕ → ℕ → Bool
-covers plan h i c r = nat_lt i plan.n && (nat_lt c plan.cases && (nat_le 1 r && (nat_le r (3 * plan.phases) && enough plan h)))
+covers plan h i c r = within plan (subject.Ballot i c r) && enough plan h
 
 -- the valid ballot of process k in round r, by counting; none if something is not there
 abbrev pub valid_at : Plan → Held → ℕ → ℕ → ℕ → ℕ → Option Ballot

@@ -2,7 +2,10 @@
 use Rattle.std.specs.Prelude.{◌≡◌, ℕ, zero, suc, ◌+◌, ◌-◌, ◌*◌, ◌/◌, min, Bool, true, false, cond, ◌&&◌, ◌||◌, Some, None, Option, nat_le, nat_lt}
 use Rattle.protocol.specs.Numbers.{ballot_number, ballot_of}
 use Rattle.protocol.specs.declared.votes.Ballot.{Ballot}
-use Rattle.consensus.specs.Rounds.{Accepted, Kind, First, Second, Third, kind}
+use Rattle.protocol.specs.declared.votes.Kind.{Kind}
+use Rattle.protocol.specs.declared.votes.Kind.TheVariants.{First, Second, Third}
+use Rattle.protocol.specs.Phases.{kind}
+use Rattle.consensus.specs.Rounds.{Accepted}
 use Rattle.consensus.specs.Validity.{Valid}
 use Rattle.ballots.specs.Tallies.{counts, part}
 use Rattle.ballots.specs.declared.tallies.ByBallot.{ByBallot}

@@ -1,11 +1,11 @@
 // What sets of m = n - t ballots of a round can allow in the round after it.
 ghost use Rattle.std.specs.Prelude.{◌≡◌};
-ghost use Rattle.consensus.specs.Rounds.{kind};
+ghost use Rattle.protocol.specs.Phases.{kind};
 ghost use Rattle.ballots.specs.Votes.{after_first, after_second, after_third, after, sifted};
 
 use crate::tallies::{Allowed, Tally};
 use plan::Plan;
-use protocol::Ballot;
+use protocol::{Ballot, Kind};
 
 const NOTHING: Allowed = Allowed {
     keep: false,
@@ -15,15 +15,23 @@ const NOTHING: Allowed = Allowed {
     open: false,
 };
 
+// A case begins with votes.
+pub(crate) const VOTES: Allowed = Allowed {
+    keep: true,
+    release: true,
+    ..NOTHING
+};
+
 // By the ballots of a round. Rounds count from 0 here.
+#[tactic(auto, unfolding(crate::specs::Votes::after))]
 pub(crate) fn allowed_after(plan: &Plan, round: u64, tally: Tally) -> Allowed
     ensures { result ≡ after plan.now.n plan.now.t (kind round) tally }
 {
-    let m = plan.n() - plan.t();
-    match round % 3 {
-        0 => after_first(m, tally),
-        1 => after_second(plan.n(), m, tally),
-        _ => after_third(plan.t(), m, tally),
+    let m = plan.quorum();
+    match Kind::of_round(round) {
+        Kind::First => after_first(m, tally),
+        Kind::Second => after_second(plan.n(), m, tally),
+        Kind::Third => after_third(plan.t(), m, tally),
     }
 }
 

@@ -3,11 +3,11 @@ ghost use Rattle.std.specs.Prelude.{◌≡◌, count_by};
 ghost use Rattle.ballots.specs.Tallies.{counts, says, cell};
 ghost use Rattle.ballots.specs.Votes.{Counted};
 
-use crate::tallies::Tally;
+use crate::tallies::{RoundBallots, Tally};
 use protocol::Ballot;
 
 // How many a row has of each ballot.
-pub fn count(row: &[Option<Ballot>; 16]) -> Tally
+pub fn count(row: &RoundBallots) -> Tally
     ensures { result ≡ counts 16 (cell row.now) }
 {
     Tally {
@@ -19,7 +19,7 @@ pub fn count(row: &[Option<Ballot>; 16]) -> Tally
     }
 }
 
-fn count_of(row: &[Option<Ballot>; 16], ballot: Ballot) -> u8
+fn count_of(row: &RoundBallots, ballot: Ballot) -> u8
     ensures { result ≡ count_by (says ballot) row.now }
 {
     row.iter().filter(|cast| **cast == Some(ballot)).count() as u8

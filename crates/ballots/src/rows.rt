@@ -6,21 +6,13 @@ ghost use Rattle.ballots.specs.Tallies.{Holds};
 ghost use Rattle.ballots.specs.Votes.{sifted};
 ghost use Rattle.ballots.specs.Places.{body_at, ballots_at, covers, valid_at, ValidRow};
 
-use crate::allowing::{allowed_after, sift};
+use crate::allowing::{VOTES, allowed_after, sift};
 use crate::counting::count;
-use crate::tallies::Allowed;
-use memory::{Memory, place_of};
+use crate::tallies::{Allowed, RoundBallots};
+use memory::{Memory, is_within, place_of};
 use plan::Plan;
-use protocol::{Ballot, Subject};
+use protocol::{PROCESSES, Subject};
 use std::array;
-
-const VOTES: Allowed = Allowed {
-    keep: true,
-    release: true,
-    propose_keep: false,
-    propose_release: false,
-    open: false,
-};
 
 // The valid ballots of a round, the first one being round 1. There are none if the plan has not the process, the case
 // or the round, or if the memory is too small for the plan.
@@ -30,12 +22,12 @@ pub fn valid_ballots(
     process: u64,
     case: u64,
     round: u64,
-) -> [Option<Ballot>; 16]
+) -> RoundBallots
     ensures value { Holds (valid_at plan.now (held memory.now) process case round) result }
     ensures valid { ValidRow plan.now (held memory.now) process case round result }
 {
     if !is_covered(plan, memory, process, case, round) {
-        return [None; 16];
+        return [None; PROCESSES as usize];
     }
     let accepted = Accepted {
         plan,
@@ -54,8 +46,12 @@ pub fn valid_ballots(
 fn is_covered(plan: &Plan, memory: &Memory, process: u64, case: u64, round: u64) -> bool
     ensures { result ≡ covers plan.now (held memory.now) process case round }
 {
-    let rounds = 1..=3 * plan.phases();
-    process < plan.n() && case < plan.cases() && rounds.contains(&round) && memory.is_enough(plan)
+    let own = Subject::Ballot {
+        originator: process,
+        case,
+        round,
+    };
+    is_within(plan, own) && memory.is_enough(plan)
 }
 
 // What a process has accepted in a case.
@@ -70,7 +66,7 @@ struct Accepted<'a, 'm> {
 
 impl<'a, 'm> Accepted<'a, 'm> {
     // The accepted ballots of a round that are allowed in it.
-    fn sifted_row(&self, round: u64, allowed: Allowed) -> [Option<Ballot>; 16]
+    fn sifted_row(&self, round: u64, allowed: Allowed) -> RoundBallots
         requires { 1 ≤ round }
         ensures { Holds (λ k. sifted allowed (ballots_at self.now.plan.now (held self.now.memory.now) self.now.process self.now.case k (round - 1))) result }
     {

@@ -1,7 +1,10 @@
 // How many there are of each ballot, and which ballots some set of them allows.
 ghost use Rattle.std.specs.Prelude.{◌≡◌};
 
-use protocol::Ballot;
+use protocol::{Ballot, PROCESSES};
+
+// The ballots of a round by originator, none where a process has no valid one.
+pub type RoundBallots = [Option<Ballot>; PROCESSES as usize];
 
 // One thing of each ballot.
 #[derive(Clone, Copy, Debug, PartialEq, Eq)]
@@ -13,7 +16,7 @@ pub struct ByBallot<T> {
     pub open: T,
 }
 
-// How many of the sixteen places of a row have each ballot.
+// How many of the sixteen places of a row have each ballot. The numbers are narrow, so that their sums fit.
 pub type Tally = ByBallot<u8>;
 
 // Which ballots may stand in the round after.

@@ -58,6 +58,11 @@ turn limits m count Echoed = by_step limits m count Echoed m.step
 turn limits m count Readied = by_step limits m count Readied m.step
 turn limits m count (Accepted b) = stay
 
+-- the stage after this one: the next, if there is one
+abbrev pub onward : Option Stage → Stage → Stage
+onward None s = s
+onward (Some s) old = s
+
 abbrev pub put : ℕ → Option Stage → List BroadcastRecord → List BroadcastRecord
 put at None rs = rs
 put at (Some s) rs = slice_set rs at (record { stage = s })

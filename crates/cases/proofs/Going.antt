@@ -5,22 +5,23 @@ use Rattle.std.proofs.lemmas.Option.{cond_some}
 use Rattle.protocol.specs.Counting.{below}
 use Rattle.protocol.specs.Numbers.{ballot_number}
 use Rattle.protocol.specs.declared.votes.Ballot.{Ballot}
-use Rattle.protocol.proofs.Counting.{below_alike}
+use Rattle.protocol.proofs.Counting.{below_zero, below_past, below_monotone}
 use Rattle.plan.specs.declared.plans.Plan.{Plan}
 use Rattle.memory.proofs.Counting.{count_places}
 use Rattle.memory.specs.Contents.{Held, case_at}
 use Rattle.memory.specs.declared.records.CaseRecord.{CaseRecord}
 use Rattle.memory.specs.Places.{case_place, case_place_of}
-use Rattle.consensus.specs.Rounds.{Accepted, kind}
+use Rattle.protocol.specs.Phases.{kind}
+use Rattle.consensus.specs.Rounds.{Accepted}
 use Rattle.consensus.specs.Validity.{Valid, Quorum, lowest}
 use Rattle.consensus.proofs.Advancing.{advances}
 use Rattle.ballots.specs.Places.{ballots_at, covers, valid_at}
 use Rattle.ballots.specs.Tallies.{cell, counts, amount, only, Holds}
 use Rattle.ballots.specs.Votes.{Exactly}
 use Rattle.ballots.specs.declared.tallies.ByBallot.{ByBallot}
-use Rattle.ballots.proofs.Counts.{below_zero, below_past, counts_past}
+use Rattle.ballots.proofs.Counts.{counts_past}
 use Rattle.ballots.proofs.Reading.{covered, holds_is, votes_behind, none_behind}
-use Rattle.ballots.proofs.Sets.{below_fewer, amount_alike}
+use Rattle.ballots.proofs.Sets.{amount_alike}
 use Rattle.ballots.proofs.Theorem.{exact}
 use Rattle.cases.specs.Steps.{stands, round_at, voters, may_advance, chosen, chosen_counts, step_by, step_at, Says, Law}
 use Rattle.cases.specs.declared.steps.Step.{Step}
@@ -30,14 +31,6 @@ use Rattle.cases.proofs.Sides.{says}
 some_stands : (o : Option Ballot) → is_some o ≡ true → (b : Ballot) × (o ≡ Some b)
 some_stands None e = absurd cc
 some_stands (Some b) e = (b, refl)
-
--- members that all pass are no more than those who pass
-part_fewer : (n : ℕ) (S p : ℕ → Bool) → ((k : ℕ) → k < n → S k ≡ true → p k ≡ true) → below n S ≤ below n p
-part_fewer n S p h = let e : below n S ≡ below n (λ k. S k && p k) = below_alike n _ _ (λ k l. go (S k) (p k) (h k l)) in omega (arith, below_fewer n S p)
-  where
-    go : (a b : Bool) → (a ≡ true → b ≡ true) → a ≡ (a && b)
-    go false b f = refl
-    go true b f = sym (f refl)
 
 module _ (plan : Plan) (h : Held) (i c : ℕ) where
   abbrev G : Accepted
@@ -130,7 +123,7 @@ module _ (plan : Plan) (h : Held) (i c : ℕ) where
   says_chosen many = says plan.n plan.t G (r - 1) (chosen plan h i c) (advances plan.n plan.t G (r - 1) (voters plan h i c) (λ k l e. voter_valid k e) many).quorum
 
   none_full : may_advance plan h i c ≡ false → covers plan h i c r ≡ true → (S : ℕ → Bool) → Quorum plan.n plan.t G (r - 1) S → ⊥
-  none_full e is S full = ⊎_elim (λ x. both_ways _ x is) (λ x. omega (arith, full.size, leb-false _ _ x, part_fewer plan.n S (voters plan h i c) (λ k l m. let v = full.member k l m in valid_voter is k v.0 v.1))) (and_cases (covers plan h i c r) (leb (plan.n - plan.t) (below plan.n (voters plan h i c))) e)
+  none_full e is S full = ⊎_elim (λ x. both_ways _ x is) (λ x. omega (arith, full.size, leb-false _ _ x, below_monotone plan.n S (voters plan h i c) (λ k l m. let v = full.member k l m in valid_voter is k v.0 v.1))) (and_cases (covers plan h i c r) (leb (plan.n - plan.t) (below plan.n (voters plan h i c))) e)
 
   law_at : Law plan h i c (step_at plan h i c)
   law_at = record {

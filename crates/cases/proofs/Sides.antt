@@ -7,13 +7,13 @@ use Rattle.protocol.specs.declared.votes.Side.{Side}
 use Rattle.protocol.specs.declared.votes.Side.TheVariants.{Keep, Release}
 use Rattle.protocol.specs.declared.votes.Ballot.{Ballot}
 use Rattle.protocol.specs.declared.votes.Ballot.TheVariants.{Open}
-use Rattle.consensus.specs.Rounds.{Accepted, Kind, First, Second, Third, kind, tally, Allows}
+use Rattle.protocol.specs.declared.votes.Kind.{Kind}
+use Rattle.protocol.specs.declared.votes.Kind.TheVariants.{First, Second, Third}
+use Rattle.protocol.specs.Phases.{kind}
+use Rattle.consensus.specs.Rounds.{Accepted, tally, Allows}
 use Rattle.consensus.specs.Validity.{Quorum}
+use Rattle.consensus.proofs.Sides.{both_sides}
 use Rattle.cases.specs.Steps.{side_above, forced_side, proposed, voted, next_ballot, in_third, step_by, Says}
-
-both : (P : Side → Type 0) → P Keep → P Release → (v : Side) → P v
-both P a b Keep = a
-both P a b Release = b
 
 module _ (count : Ballot → ℕ) where
   module _ (bound : ℕ) where
@@ -32,7 +32,7 @@ module _ (count : Ballot → ℕ) where
         go : (a b : Bool) → ltb n (2 * count (vote Keep)) ≡ a → ltb n (2 * count (vote Release)) ≡ b → Allows n t Second count (ballot_number (cond a (proposal Keep) (cond b (proposal Release) Open)))
         go true b x y = inl (Keep, ltb-true _ _ x, refl)
         go false true x y = inl (Release, ltb-true _ _ y, refl)
-        go false false x y = inr (both (λ v. 2 * count (vote v) ≤ n) (ltb-false _ _ x) (ltb-false _ _ y), refl)
+        go false false x y = inr (both_sides (λ v. 2 * count (vote v) ≤ n) (ltb-false _ _ x) (ltb-false _ _ y), refl)
 
     third_allowed : (b : Ballot) → voted (forced_side t count) ≡ Some b → Allows n t Third count (ballot_number b)
     third_allowed b e = go (forced_side t count) refl e

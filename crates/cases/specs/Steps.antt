@@ -9,7 +9,10 @@ use Rattle.protocol.specs.declared.votes.Ballot.TheVariants.{Open}
 use Rattle.plan.specs.declared.plans.Plan.{Plan}
 use Rattle.memory.specs.Contents.{Held, case_at}
 use Rattle.memory.specs.Places.{case_place}
-use Rattle.consensus.specs.Rounds.{Accepted, Kind, First, Second, Third, kind, tally, Forces, Decides, ahead, Allows}
+use Rattle.protocol.specs.declared.votes.Kind.{Kind}
+use Rattle.protocol.specs.declared.votes.Kind.TheVariants.{First, Second, Third}
+use Rattle.protocol.specs.Phases.{kind}
+use Rattle.consensus.specs.Rounds.{Accepted, tally, Forces, Decides, ahead, Allows}
 use Rattle.consensus.specs.Validity.{Valid, Quorum, lowest}
 use Rattle.ballots.specs.Places.{ballots_at, covers, valid_at}
 use Rattle.cases.specs.declared.steps.Step.{Step}

@@ -1,5 +1,5 @@
 // The set of ballots that a process goes on by.
-ghost use Rattle.std.specs.Prelude.{◌≡◌, ◌-◌, count_by, is_some};
+ghost use Rattle.std.specs.Prelude.{◌≡◌, count_by, is_some};
 ghost use Rattle.memory.specs.Contents.{held};
 ghost use Rattle.consensus.specs.Validity.{lowest};
 ghost use Rattle.ballots.specs.Tallies.{cell, only, Holds};
@@ -7,7 +7,7 @@ ghost use Rattle.cases.specs.Steps.{stands, step_at, Law};
 
 use crate::saying::step_by;
 use crate::steps::Step;
-use ballots::{count, valid_ballots};
+use ballots::{RoundBallots, count, valid_ballots};
 use memory::{Memory, case_place};
 use plan::Plan;
 use protocol::Ballot;
@@ -23,18 +23,11 @@ pub fn next_step(plan: &Plan, memory: &Memory, process: u64, case: u64) -> Optio
     let place = case_place(plan, process, case)?;
     let round = u64::from(memory.case_record(place).round);
     let row = valid_ballots(plan, memory, process, case, round);
-    let m = set_size(plan);
+    let m = plan.quorum() as usize;
     if count_all(&row) < m {
         return None;
     }
     Some(step_by(plan, round - 1, count(&choose_lowest(&row, m))))
-}
-
-// How many ballots a process goes on by.
-fn set_size(plan: &Plan) -> usize
-    ensures { result ≡ plan.now.n - plan.now.t }
-{
-    (plan.n() - plan.t()) as usize
 }
 
 // How many ballots there are.
@@ -45,7 +38,7 @@ fn count_all(row: &[Option<Ballot>]) -> usize
 }
 
 // The first m ballots of a row.
-fn choose_lowest(row: &[Option<Ballot>; 16], m: usize) -> [Option<Ballot>; 16]
+fn choose_lowest(row: &RoundBallots, m: usize) -> RoundBallots
     ensures { Holds (only (lowest m (stands (cell row.now))) (cell row.now)) result }
 {
     array::from_fn(|k| row[k].filter(|_| count_all(&row[..k]) < m))

@@ -1,22 +1,24 @@
 // What a set of n - t ballots says, by how many it has of each.
 ghost use Rattle.std.specs.Prelude.{◌≡◌};
-ghost use Rattle.consensus.specs.Rounds.{kind, ahead};
+ghost use Rattle.protocol.specs.Phases.{kind};
+ghost use Rattle.consensus.specs.Rounds.{ahead};
 ghost use Rattle.ballots.specs.Tallies.{amount};
 ghost use Rattle.cases.specs.Steps.{proposed, over, say, after_third, step_by};
 
 use crate::steps::Step;
 use ballots::Tally;
 use plan::Plan;
-use protocol::{Ballot, Side};
+use protocol::{Ballot, Kind, Side};
 
 // By a set of ballots of a round. Rounds count from 0 here.
+#[tactic(auto, unfolding(crate::specs::Steps::step_by))]
 pub(crate) fn step_by(plan: &Plan, round: u64, tally: Tally) -> Step
     ensures { result ≡ step_by plan.now.n plan.now.t (kind round) (amount tally) }
 {
-    match round % 3 {
-        0 => say(Ballot::vote(side_ahead(tally))),
-        1 => say(proposed(plan, tally)),
-        _ => after_third(plan, tally),
+    match Kind::of_round(round) {
+        Kind::First => say(Ballot::vote(side_ahead(tally))),
+        Kind::Second => say(proposed(plan, tally)),
+        Kind::Third => after_third(plan, tally),
     }
 }
 

@@ -15,13 +15,17 @@ strip_side bytes index = side_of (slice_index bytes index)
 abbrev pub from_one : ℕ → (ℕ → Side) → Side
 from_one phase side = cond (phase == 0) Keep (side (phase - 1))
 
--- a row of phases for each case of each process
-abbrev pub own_side : List ℕ → ℕ → ℕ → ℕ → ℕ → ℕ → Side
-own_side bytes cases phases process case phase = from_one phase (λ k. strip_side bytes ((process * cases + case) * phases + k))
+-- the bytes stand in rows, a byte for each phase
+abbrev pub row_side : List ℕ → ℕ → ℕ → ℕ → Side
+row_side bytes row phases phase = from_one phase (λ k. strip_side bytes (row * phases + k))
 
--- a row of phases for each case
+-- a row for each case of each process
+abbrev pub own_side : List ℕ → ℕ → ℕ → ℕ → ℕ → ℕ → Side
+own_side bytes cases phases process case phase = row_side bytes (process * cases + case) phases phase
+
+-- a row for each case
 abbrev pub dealer_side : List ℕ → ℕ → ℕ → ℕ → Side
-dealer_side bytes phases case phase = from_one phase (λ k. strip_side bytes (case * phases + k))
+dealer_side bytes phases case phase = row_side bytes case phases phase
 
 -- a bit of a word, from the lowest on
 abbrev pub word_side : ℕ → ℕ → ℕ → Side

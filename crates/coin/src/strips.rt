@@ -1,6 +1,6 @@
 // Coins that read their sides off lent bytes, one for each toss: odd means release.
 ghost use Rattle.std.specs.Prelude.{◌≡◌};
-ghost use Rattle.coin.specs.Sides.{strip_side, own_side, dealer_side};
+ghost use Rattle.coin.specs.Sides.{row_side, own_side, dealer_side};
 
 use crate::coins::{Coin, SharedCoin};
 use crate::sides::side_of;
@@ -8,7 +8,7 @@ use plan::Plan;
 use protocol::Side;
 
 // Has bytes for each process: for each of its cases one for each phase.
-#[derive(Clone, Copy)]
+#[derive(Clone, Copy, Debug, PartialEq, Eq)]
 pub struct OwnStrip<'a> {
     bytes: &'a [u8],
     cases: u8,
@@ -16,18 +16,20 @@ pub struct OwnStrip<'a> {
 }
 
 // Has bytes for each case, one for each phase, and shows them to every process.
-#[derive(Clone, Copy)]
+#[derive(Clone, Copy, Debug, PartialEq, Eq)]
 pub struct DealerStrip<'a> {
     bytes: &'a [u8],
     phases: u8,
 }
 
-// Past the end of the bytes it is keep.
-fn side_at(bytes: &[u8], index: usize) -> Side
-    ensures { result ≡ strip_side bytes.now index }
+// The side for a phase, in one of the rows that the bytes stand in. It is keep at phase 0 and past the end of the bytes.
+fn side_at(bytes: &[u8], row: u16, phases: u8, phase: u8) -> Side
+    ensures { result ≡ row_side bytes.now row phases phase }
 {
-    bytes
-        .get(index)
+    let first = usize::from(row) * usize::from(phases);
+    phase
+        .checked_sub(1)
+        .and_then(|past| bytes.get(first + usize::from(past)))
         .map_or(Side::Keep, |byte| side_of(u64::from(*byte)))
 }
 
@@ -61,11 +63,8 @@ impl Coin for OwnStrip<'_> {
     ghost shows = { λ s. own_side s.bytes.now s.cases s.phases };
 
     fn toss(&self, process: u8, case: u8, phase: u8) -> Side {
-        let Some(past) = phase.checked_sub(1) else {
-            return Side::Keep;
-        };
-        let row = process as usize * self.cases as usize + case as usize;
-        side_at(self.bytes, row * self.phases as usize + past as usize)
+        let row = u16::from(process) * u16::from(self.cases) + u16::from(case);
+        side_at(self.bytes, row, self.phases, phase)
     }
 }
 
@@ -79,10 +78,6 @@ impl Coin for DealerStrip<'_> {
 
 impl SharedCoin for DealerStrip<'_> {
     fn toss_for_all(&self, case: u8, phase: u8) -> Side {
-        let Some(past) = phase.checked_sub(1) else {
-            return Side::Keep;
-        };
-        let first = case as usize * self.phases as usize;
-        side_at(self.bytes, first + past as usize)
+        side_at(self.bytes, u16::from(case), self.phases, phase)
     }
 }

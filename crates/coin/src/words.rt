@@ -6,7 +6,7 @@ use crate::coins::{Coin, SharedCoin};
 use crate::sides::side_of;
 use protocol::Side;
 
-#[derive(Clone, Copy)]
+#[derive(Clone, Copy, Debug, PartialEq, Eq)]
 pub struct WordCoin {
     word: u64,
 }
@@ -29,10 +29,9 @@ impl Coin for WordCoin {
 
 impl SharedCoin for WordCoin {
     fn toss_for_all(&self, case: u8, phase: u8) -> Side {
-        let Some(past) = phase.checked_sub(1) else {
-            return Side::Keep;
-        };
-        let bit = (16 * u32::from(case) + u32::from(past)) % 64;
-        side_of(self.word >> bit)
+        phase.checked_sub(1).map_or(Side::Keep, |past| {
+            let bit = (16 * u32::from(case) + u32::from(past)) % 64;
+            side_of(self.word >> bit)
+        })
     }
 }

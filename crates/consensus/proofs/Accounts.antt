@@ -2,30 +2,23 @@
 use Rattle.std.proofs.Common.{◌≡◌, ℕ, zero, suc, ◌<◌, ◌≤◌, Bool, true, false, ◌⊎◌, Some, Option, sym, refl, ◌∙◌, subst, inl, inr, ⊎_elim, arith}
 use Rattle.std.proofs.lemmas.Bool.{both_ways, cases_Bool, cases_lt}
 use Rattle.agreement.proofs.Bodies.{none_some}
-use Rattle.protocol.specs.Counting.{below}
+use Rattle.agreement.proofs.Counts.{below_measure}
 use Rattle.protocol.specs.declared.votes.Side.{Side}
 use Rattle.protocol.specs.Numbers.{ballot_number, vote}
-use Rattle.consensus.specs.Rounds.{Accepted, Third, kind, tally, Forces, Decides, Allows}
+use Rattle.protocol.specs.declared.votes.Kind.TheVariants.{Third}
+use Rattle.protocol.specs.Phases.{kind}
+use Rattle.consensus.specs.Rounds.{Accepted, tally, Forces, Decides, Allows}
 use Rattle.consensus.specs.Validity.{Quorum, Justified, Part, Resilient, Correct}
 use Rattle.consensus.specs.Decisions.{Tossed}
 use Rattle.consensus.specs.Maps.{Decisions, Decided}
 use Rattle.consensus.specs.Accounts.{Left, Account, Outcomes}
+use Rattle.consensus.proofs.Sides.{third_late}
 use Rattle.consensus.proofs.Steps.{all_kept}
 use Rattle.consensus.proofs.Joins.{decisions, going}
 
-no_one : (n : ℕ) → below n (λ _. false) ≡ 0
-unfolding below
-no_one zero = refl
-no_one (suc n) = omega (arith, no_one n)
-
 empty_forces : (n t : ℕ) (A : Accepted) (r : ℕ) (v : Side) → Forces t (tally n A r (λ _. false)) v → ⊥
 unfolding tally
-empty_forces n t A r v f = omega (arith, no_one n)
-
--- a third round is not the first of all
-third_late : (q : ℕ) → kind q ≡ Third → 0 < q
-third_late zero e = let z : ◌≡◌ {A = ℕ} 0 1 = cc in absurd (omega arith)
-third_late (suc q) e = omega arith
+empty_forces n t A r v f = omega (arith, (below_measure n).empty)
 
 module _ (n : ℕ) (faulty : ℕ → Bool) where
   whether : (o : ℕ) → Correct n faulty o ⊎ (Correct n faulty o → ⊥)

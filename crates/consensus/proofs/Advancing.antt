@@ -1,14 +1,20 @@
 -- Full sets exist where there are enough valid ballots, and each allows a ballot.
-use Rattle.std.proofs.Common.{◌≡◌, ℕ, zero, suc, ◌+◌, ◌-◌, ◌*◌, ◌<◌, ◌≤◌, min, Bool, true, false, cond, not, ◌&&◌, ltb, ◌⊎◌, refl, ap, ◌∙◌, inl, inr, ⊎_elim, arith}
+use Rattle.std.proofs.Common.{◌≡◌, ℕ, zero, suc, ◌+◌, ◌-◌, ◌*◌, ◌<◌, ◌≤◌, min, Bool, true, false, cond, not, ◌&&◌, ◌||◌, ltb, ◌⊎◌, refl, ap, ◌∙◌, inl, inr, ⊎_elim, arith}
 use Rattle.std.proofs.lemmas.Bool.{lt-ltb, le-ltb, and_parts, not-true, cases_lt}
+use Rattle.std.proofs.Math.Bool.{or-not_self}
 use Rattle.protocol.specs.declared.votes.Side.{Side}
 use Rattle.protocol.specs.declared.votes.Side.TheVariants.{Keep, Release}
 use Rattle.protocol.specs.declared.votes.Ballot.{Ballot}
 use Rattle.protocol.specs.Counting.{below}
 use Rattle.protocol.specs.Numbers.{vote, proposal}
-use Rattle.consensus.specs.Rounds.{Accepted, Kind, First, Second, Third, kind, tally, Allows}
+use Rattle.protocol.specs.declared.votes.Kind.{Kind}
+use Rattle.protocol.specs.declared.votes.Kind.TheVariants.{First, Second, Third}
+use Rattle.protocol.specs.Phases.{kind}
+use Rattle.consensus.specs.Rounds.{Accepted, tally, Allows}
+use Rattle.agreement.proofs.Counts.{below_all, below_measure}
 use Rattle.consensus.specs.Validity.{Valid, lowest, Resilient, Correct}
 use Rattle.consensus.specs.Decisions.{Advances}
+use Rattle.consensus.proofs.Sides.{both_sides}
 
 one_lowest : (m c d : ℕ) (b : Bool) → d ≡ min m c → cond (b && ltb c m) 1 0 + d ≡ min m (cond b 1 0 + c)
 one_lowest m c d false e = omega arith
@@ -20,23 +26,10 @@ unfolding below lowest
 lowest_size zero m p = omega arith
 lowest_size (suc n) m p = one_lowest m (below n p) (below n (lowest m p)) (p n) (lowest_size n m p)
 
-one_not : (b : Bool) → cond b 1 0 + cond (not b) 1 0 ≡ 1
-one_not true = refl
-one_not false = refl
-
-below_not : (n : ℕ) (p : ℕ → Bool) → below n p + below n (λ k. not (p k)) ≡ n
-unfolding below
-below_not zero p = refl
-below_not (suc n) p = let one = one_not (p n) in omega (arith, below_not n p)
-
 -- the side that has more than a bound, or none has
 pick : (bound : ℕ) (f : Side → ℕ) → ((v : Side) × (bound < f v)) ⊎ ((v : Side) → f v ≤ bound)
 pick bound f =
-    ⊎_elim (λ (l : bound < f Keep). inl (Keep, l)) (λ (l : f Keep ≤ bound). ⊎_elim (λ (k : bound < f Release). inl (Release, k)) (λ (k : f Release ≤ bound). inr (neither l k)) (cases_lt bound (f Release))) (cases_lt bound (f Keep))
-  where
-    neither : f Keep ≤ bound → f Release ≤ bound → (v : Side) → f v ≤ bound
-    neither l k Keep = l
-    neither l k Release = k
+    ⊎_elim (λ (l : bound < f Keep). inl (Keep, l)) (λ (l : f Keep ≤ bound). ⊎_elim (λ (k : bound < f Release). inl (Release, k)) (λ (k : f Release ≤ bound). inr (both_sides (λ v. f v ≤ bound) l k)) (cases_lt bound (f Release))) (cases_lt bound (f Keep))
 
 allows_some : (n t : ℕ) (q : Kind) (count : Ballot → ℕ) → (b : ℕ) × Allows n t q count b
 allows_some n t First count = (_, refl)
@@ -55,7 +48,8 @@ module _ (n t : ℕ) where
   }
 
   correct_many : (faulty : ℕ → Bool) → below n faulty ≤ t → n - t ≤ below n (λ k. not (faulty k))
-  correct_many faulty few = omega (arith, below_not n faulty)
+  correct_many faulty few =
+      omega (arith, below_all n, (below_measure n).modular faulty (λ k. not (faulty k)), (below_measure n).monotone (λ _. true) (λ k. faulty k || not (faulty k)) (λ k l e. or-not_self (faulty k)))
 
   pub enough : (faulty : ℕ → Bool) → Resilient n t faulty → (A : Accepted) (r : ℕ) → ((k : ℕ) → Correct n faulty k → (b : ℕ) × Valid n t A r k b) → (S : ℕ → Bool) × Advances n t A r S
   enough faulty law A r valid =

@@ -6,7 +6,8 @@ use Rattle.protocol.specs.declared.votes.Side.TheVariants.{Keep, Release}
 use Rattle.protocol.specs.Counting.{below}
 use Rattle.protocol.specs.Numbers.{ballot_number}
 use Rattle.agreement.proofs.Bodies.{some_once}
-use Rattle.consensus.specs.Rounds.{Accepted, kind, tally, Allows, Decides, ballot_for}
+use Rattle.protocol.specs.Phases.{kind}
+use Rattle.consensus.specs.Rounds.{Accepted, tally, Allows, Decides, ballot_for}
 use Rattle.consensus.specs.Validity.{Valid, Quorum}
 use Rattle.consensus.specs.Decisions.{Happens}
 use Rattle.consensus.proofs.Tallies.{held}

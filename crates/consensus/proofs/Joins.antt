@@ -4,7 +4,9 @@ use Rattle.std.proofs.lemmas.Bool.{both_ways, cases_lt}
 use Rattle.agreement.proofs.Bodies.{none_some}
 use Rattle.protocol.specs.declared.votes.Side.{Side}
 use Rattle.protocol.specs.Numbers.{proposal}
-use Rattle.consensus.specs.Rounds.{Accepted, Third, kind, tally}
+use Rattle.protocol.specs.declared.votes.Kind.TheVariants.{Third}
+use Rattle.protocol.specs.Phases.{kind}
+use Rattle.consensus.specs.Rounds.{Accepted, tally}
 use Rattle.consensus.specs.Validity.{Quorum, Justified, Part, Resilient, Correct}
 use Rattle.consensus.specs.Decisions.{Kept, Settled, Unanimous, Advances}
 use Rattle.consensus.specs.Maps.{Alike, Joins, Decided, Votes, Lucky, Decisions}

@@ -1,16 +1,23 @@
 -- Ballots of different sides differ, and the kinds of rounds follow one another.
-use Rattle.std.proofs.Common.{◌≡◌, ℕ, zero, suc, ◌<◌, Bool, cond, refl, ap, arith}
+use Rattle.std.proofs.Common.{◌≡◌, ℕ, zero, suc, ◌<◌, ◌≤◌, Bool, cond, refl, ap, arith}
 use Rattle.std.proofs.lemmas.Bool.{lt-ltb, le-ltb}
 use Rattle.protocol.specs.declared.votes.Side.{Side}
 use Rattle.protocol.specs.declared.votes.Side.TheVariants.{Keep, Release}
 use Rattle.protocol.specs.declared.votes.Ballot.{Ballot}
 use Rattle.protocol.specs.declared.votes.Ballot.TheVariants.{Open}
 use Rattle.protocol.specs.Numbers.{ballot_number, vote, proposal}
-use Rattle.consensus.specs.Rounds.{Kind, First, Second, Third, kind, ahead, ballot_for}
+use Rattle.protocol.specs.declared.votes.Kind.{Kind}
+use Rattle.protocol.specs.declared.votes.Kind.TheVariants.{First, Second, Third}
+use Rattle.protocol.specs.Phases.{kind}
+use Rattle.consensus.specs.Rounds.{ahead, ballot_for}
 
 abbrev pub other : Side → Side
 other Keep = Release
 other Release = Keep
+
+pub both_sides : (P : Side → Type 0) → P Keep → P Release → (v : Side) → P v
+both_sides P a b Keep = a
+both_sides P a b Release = b
 
 pub vote_side : (u v : Side) → ballot_number (vote u) ≡ ballot_number (vote v) → u ≡ v
 vote_side Keep Keep e = refl
@@ -40,12 +47,18 @@ not_open Keep e = omega arith
 not_open Release e = omega arith
 
 pub not_other : (v : Side) → other v ≡ v → ⊥
-not_other Keep e = let z : ◌≡◌ {A = ℕ} 0 1 = cc in omega arith
-not_other Release e = let z : ◌≡◌ {A = ℕ} 0 1 = cc in omega arith
+not_other Keep e = cc
+not_other Release e = cc
+
+pub keep_ahead : (count : Ballot → ℕ) → count (vote Release) ≤ count (vote Keep) → ahead count ≡ Keep
+keep_ahead count l = ap (λ (z : Bool). cond z Release Keep) (le-ltb _ _ l)
+
+pub release_ahead : (count : Ballot → ℕ) → count (vote Keep) < count (vote Release) → ahead count ≡ Release
+release_ahead count l = ap (λ (z : Bool). cond z Release Keep) (lt-ltb _ _ l)
 
 pub ahead_is : (count : Ballot → ℕ) (v : Side) → count (vote (other v)) < count (vote v) → ahead count ≡ v
-ahead_is count Keep l = ap (λ (z : Bool). cond z Release Keep) (le-ltb _ _ (omega arith))
-ahead_is count Release l = ap (λ (z : Bool). cond z Release Keep) (lt-ltb _ _ l)
+ahead_is count Keep l = keep_ahead count (omega arith)
+ahead_is count Release l = release_ahead count l
 
 abbrev pub after : Kind → Kind
 after First = Second
@@ -57,3 +70,8 @@ kind_after zero = refl
 kind_after (suc zero) = refl
 kind_after (suc (suc zero)) = refl
 kind_after (suc (suc (suc r))) = kind_after r
+
+-- a third round is not the first of all
+pub third_late : (r : ℕ) → kind r ≡ Third → 0 < r
+third_late zero e = absurd cc
+third_late (suc r) e = omega arith

@@ -6,7 +6,10 @@ use Rattle.protocol.specs.declared.votes.Ballot.{Ballot}
 use Rattle.protocol.specs.Numbers.{ballot_number, vote, proposal}
 use Rattle.protocol.proofs.Counting.{below_alike}
 use Rattle.agreement.specs.Records.{has}
-use Rattle.consensus.specs.Rounds.{Accepted, Kind, First, Second, Third, kind, tally, Forces, Most, ahead, Allows, ballot_for}
+use Rattle.protocol.specs.declared.votes.Kind.{Kind}
+use Rattle.protocol.specs.declared.votes.Kind.TheVariants.{First, Second, Third}
+use Rattle.protocol.specs.Phases.{kind}
+use Rattle.consensus.specs.Rounds.{Accepted, tally, Forces, Most, ahead, Allows, ballot_for}
 use Rattle.consensus.specs.Validity.{Valid, Quorum, Justified, Part}
 use Rattle.consensus.specs.Decisions.{Kept, OneSide}
 use Rattle.consensus.proofs.Sides.{other, vote_side, proposal_side, side_of, not_vote, not_open, not_other, ahead_is, after, kind_after}

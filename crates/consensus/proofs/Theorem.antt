@@ -1,13 +1,16 @@
 -- Decisions: what binds them, what they bind, and why they agree.
-use Rattle.std.proofs.Common.{◌≡◌, ℕ, zero, suc, ◌-◌, ◌*◌, ◌<◌, ◌≤◌, Bool, sym, refl, ap, ◌∙◌, subst, ⊎_elim, arith}
+use Rattle.std.proofs.Common.{◌≡◌, ℕ, suc, ◌-◌, ◌*◌, ◌<◌, ◌≤◌, Bool, sym, refl, ap, ◌∙◌, subst, ⊎_elim, arith}
 use Rattle.std.proofs.lemmas.Bool.{cases_lt}
 use Rattle.protocol.specs.declared.votes.Side.{Side}
 use Rattle.protocol.specs.declared.votes.Ballot.{Ballot}
 use Rattle.protocol.specs.Numbers.{ballot_number, vote, proposal}
-use Rattle.consensus.specs.Rounds.{Accepted, Kind, First, Third, kind, tally, Forces, Decides, ballot_for}
+use Rattle.protocol.specs.declared.votes.Kind.{Kind}
+use Rattle.protocol.specs.declared.votes.Kind.TheVariants.{First, Third}
+use Rattle.protocol.specs.Phases.{kind}
+use Rattle.consensus.specs.Rounds.{Accepted, tally, Forces, Decides, ballot_for}
 use Rattle.consensus.specs.Validity.{Valid, Quorum, Part, Resilient, Correct}
 use Rattle.consensus.specs.Decisions.{Locked, Settled, Unanimous, Tossed}
-use Rattle.consensus.proofs.Sides.{other, vote_side, not_other, after, kind_after}
+use Rattle.consensus.proofs.Sides.{other, vote_side, not_other, after, kind_after, third_late}
 use Rattle.consensus.proofs.Tallies.{tally_correct, tally_faulty, tally_met}
 use Rattle.consensus.proofs.Steps.{all_kept, Carries, one_side, Agreed, carried_on, agreed_count, agreed_only, agreed_on}
 
@@ -16,10 +19,6 @@ third_carries n t q count v e f one = subst (λ (k : Kind). Carries n t k count 
 
 first_carries : (n t : ℕ) (q : Kind) (count : Ballot → ℕ) (v : Side) → q ≡ First → count (vote (other v)) < count (vote v) → Carries n t q count v
 first_carries n t q count v e l = subst (λ (k : Kind). Carries n t k count v) (sym e) l
-
-later : (r : ℕ) → kind r ≡ Third → 0 < r
-later zero e = let z : ◌≡◌ {A = ℕ} 0 1 = cc in absurd (omega arith)
-later (suc r) e = omega arith
 
 module _ (n t : ℕ) (G : Accepted) where
   -- every later round than one that has v only
@@ -63,7 +62,7 @@ module _ (n t : ℕ) (G : Accepted) where
     pub valid_decision : (A : Accepted) → Part A G → (v : Side) → Unanimous n t faulty G 0 v → (r : ℕ) → kind r ≡ Third → (S : ℕ → Bool) (u : Side) → Quorum n t A r S → Decides t (tally n A r S) u → u ≡ v
     valid_decision A part v all r e S u full d =
         let x = all_kept n t A G part r in
-        (settled 0 v refl all r (later r e)).alone e S u (x.quorums S full) (omega (arith, x.tallies S full (proposal u)))
+        (settled 0 v refl all r (third_late r e)).alone e S u (x.quorums S full) (omega (arith, x.tallies S full (proposal u)))
 
     pub lucky : (r : ℕ) (c : Side) (counts : ℕ → Ballot → ℕ) → kind r ≡ Third → ((o b : ℕ) → Correct n faulty o → Valid n t G (suc r) o b → Tossed t (counts o) c b) → ((o : ℕ) (v : Side) → Correct n faulty o → Forces t (counts o) v → v ≡ c) → (q : ℕ) → suc r < q → Settled n t G q c
     lucky r c counts e tossed same q l = settled (suc r) c (kind_after r ∙ ap after e) unanimous q l

@@ -2,7 +2,9 @@
 use Rattle.std.specs.Prelude.{◌≡◌, ℕ, suc, ◌<◌, ◌≤◌, Bool, Some, None, Option}
 use Rattle.protocol.specs.declared.votes.Side.{Side}
 use Rattle.protocol.specs.Numbers.{ballot_number, vote}
-use Rattle.consensus.specs.Rounds.{Accepted, Third, kind, tally, Forces, Decides}
+use Rattle.protocol.specs.declared.votes.Kind.TheVariants.{Third}
+use Rattle.protocol.specs.Phases.{kind}
+use Rattle.consensus.specs.Rounds.{Accepted, tally, Forces, Decides}
 use Rattle.consensus.specs.Validity.{Quorum, Justified, Part, Correct}
 use Rattle.consensus.specs.Decisions.{Tossed}
 use Rattle.consensus.specs.Maps.{Alike}

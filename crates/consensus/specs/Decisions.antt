@@ -4,7 +4,9 @@ use Rattle.protocol.specs.declared.votes.Side.{Side}
 use Rattle.protocol.specs.declared.votes.Ballot.{Ballot}
 use Rattle.protocol.specs.Counting.{below}
 use Rattle.protocol.specs.Numbers.{ballot_number, vote, proposal}
-use Rattle.consensus.specs.Rounds.{Accepted, First, Third, kind, tally, Forces, Decides, Allows, ballot_for}
+use Rattle.protocol.specs.declared.votes.Kind.TheVariants.{First, Third}
+use Rattle.protocol.specs.Phases.{kind}
+use Rattle.consensus.specs.Rounds.{Accepted, tally, Forces, Decides, Allows, ballot_for}
 use Rattle.consensus.specs.Validity.{Valid, Quorum, Justified, lowest, Part, Resilient, Correct}
 
 -- What is valid in a part is valid in the whole, and a set says there what it says here.

@@ -1,25 +1,14 @@
--- The ballots of one case, round by round, and what a set of ballots says of the next round. Rounds count from 0 here:
--- phase k, from 0 too, has the rounds 3k, 3k + 1 and 3k + 2.
-use Rattle.std.specs.Prelude.{◌≡◌, ℕ, zero, suc, ◌*◌, ◌<◌, ◌≤◌, Bool, cond, ◌&&◌, ◌⊎◌, Option, nat_lt}
+-- The ballots of one case, round by round, and what a set of ballots says of the next round. Rounds count from 0 here.
+use Rattle.std.specs.Prelude.{◌≡◌, ℕ, ◌*◌, ◌<◌, ◌≤◌, Bool, cond, ◌&&◌, ◌⊎◌, Option, nat_lt}
 use Rattle.protocol.specs.declared.votes.Side.{Side}
 use Rattle.protocol.specs.declared.votes.Side.TheVariants as side
 use Rattle.protocol.specs.declared.votes.Ballot.{Ballot}
 use Rattle.protocol.specs.declared.votes.Ballot.TheVariants.{Open}
 use Rattle.protocol.specs.Counting.{below}
+use Rattle.protocol.specs.declared.votes.Kind.{Kind}
+use Rattle.protocol.specs.declared.votes.Kind.TheVariants.{First, Second, Third}
 use Rattle.protocol.specs.Numbers.{ballot_number, vote, proposal}
 use Rattle.agreement.specs.Records.{has}
-
--- the place of a round in its phase
-pub data Kind : Type 0 where
-  First : Kind
-  Second : Kind
-  Third : Kind
-
-abbrev pub kind : ℕ → Kind
-kind zero = First
-kind (suc zero) = Second
-kind (suc (suc zero)) = Third
-kind (suc (suc (suc r))) = kind r
 
 -- the ballots accepted in a case, as numbers: by originator, then by round
 abbrev pub Accepted : Type 0

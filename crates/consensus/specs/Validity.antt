@@ -3,7 +3,8 @@ use Rattle.std.specs.Prelude.{◌≡◌, ℕ, zero, suc, ◌-◌, ◌*◌, ◌<�
 use Rattle.protocol.specs.declared.votes.Side.{Side}
 use Rattle.protocol.specs.Counting.{below}
 use Rattle.protocol.specs.Numbers.{ballot_number, vote}
-use Rattle.consensus.specs.Rounds.{Accepted, kind, tally, Allows}
+use Rattle.protocol.specs.Phases.{kind}
+use Rattle.consensus.specs.Rounds.{Accepted, tally, Allows}
 
 -- n - t processes, each with a ballot that V holds of
 pub record Full (n t : ℕ) (V : ℕ → ℕ → Type 0) (S : ℕ → Bool) : Type 0 where

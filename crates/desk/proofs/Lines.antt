@@ -9,11 +9,11 @@ use Rattle.protocol.specs.declared.refusals.Refusal.{Refusal}
 use Rattle.plan.specs.Marks.{mark_answer, marks_after}
 use Rattle.plan.specs.Plans.{planned}
 use Rattle.plan.specs.declared.plans.Plan.{Plan}
-use Rattle.plan.specs.declared.drafts.Draft.{Draft}
-use Rattle.plan.specs.declared.drafts.Line.{Line}
+use Rattle.plan.specs.Kinds.{Draft, Line}
 use Rattle.protocol.specs.declared.messages.Message.{Message}
 use Rattle.form.specs.declared.forms.Form.{Form}
 use Rattle.form.specs.declared.forms.Form.TheVariants as form
+use Rattle.form.specs.declared.forms.LineForm.{LineForm}
 use Rattle.memory.specs.Contents.{Held, cleared}
 use Rattle.line.specs.Opening.{open_refusal, Opened, NotOpened, Opens}
 use Rattle.desk.specs.Desk.{past, marking, lawful, line_if, line_of, opening, opens_with, opens_marked, opens_planned, opens, opens_by}
@@ -46,6 +46,7 @@ same_line l k plan marks = λ i.
     record {
       plan = plan i;
       marks = marks i;
+      state = record {};
       few = is_prop→PathP (λ j. ones (marks j) ≤ (plan j).t) (λ j. le_prop {n = ones (marks j)} {m = (plan j).t}) l.few k.few i;
       inside = is_prop→PathP (λ j. marks j < 2 ^ (plan j).n) (λ j. le_prop {n = suc (marks j)} {m = 2 ^ (plan j).n}) l.inside k.inside i;
     }
@@ -62,20 +63,20 @@ pub line_of_lem : (line : Line) (plan : Plan) (marks : ℕ) → line.plan ≡ pl
 line_of_lem line plan marks e f = (λ i. line_of (sym e i) (sym f i)) ∙ line_is line
 
 -- opening the line of a form, from its plan on
-module _ (h : Held) (ws : List Message) (n t : ℕ) (ms : List ℕ) (f : Form) (is : f ≡ form.Line n t ms) where
-  pub no_plan : (e : Refusal) → Err e ≡ planned n t 2 1 3 → opening (Err e) h ≡ opens_by h ws f
+module _ (h : Held) (ws : List Message) (l : LineForm) (f : Form) (is : f ≡ form.Line l) where
+  pub no_plan : (e : Refusal) → Err e ≡ planned l.counters l.tolerate 2 1 3 → opening (Err e) h ≡ opens_by h ws f
   unfolding opens
-  no_plan e p = ap (λ (r : Result Plan Refusal). opens_planned h ws r ms) p ∙ ap (opens_by h ws) (sym is)
+  no_plan e p = ap (λ (r : Result Plan Refusal). opens_planned h ws r l.strange) p ∙ ap (opens_by h ws) (sym is)
 
-  module _ (plan : Plan) (p : Ok plan ≡ planned n t 2 1 3) where
-    by_marks : (r : Result ℕ Refusal) → r ≡ marking plan 0 ms → opens_marked h ws plan r ≡ opens_by h ws f
+  module _ (plan : Plan) (p : Ok plan ≡ planned l.counters l.tolerate 2 1 3) where
+    by_marks : (r : Result ℕ Refusal) → r ≡ marking plan 0 l.strange → opens_marked h ws plan r ≡ opens_by h ws f
     unfolding opens
-    by_marks r q = ap (opens_marked h ws plan) q ∙ (ap (λ (x : Result Plan Refusal). opens_planned h ws x ms) p ∙ ap (opens_by h ws) (sym is))
+    by_marks r q = ap (opens_marked h ws plan) q ∙ (ap (λ (x : Result Plan Refusal). opens_planned h ws x l.strange) p ∙ ap (opens_by h ws) (sym is))
 
-    pub no_marks : (e : Refusal) → Err e ≡ marking plan 0 ms → opening (Err e) h ≡ opens_by h ws f
+    pub no_marks : (e : Refusal) → Err e ≡ marking plan 0 l.strange → opening (Err e) h ≡ opens_by h ws f
     no_marks e q = by_marks (Err e) q
 
-    module _ (draft : Draft) (same : draft.plan ≡ plan) (q : Ok draft.marks ≡ marking plan 0 ms) where
+    module _ (draft : Draft) (same : draft.plan ≡ plan) (q : Ok draft.marks ≡ marking plan 0 l.strange) where
       opened : (line : Line) (after : Held) → Opened draft h ws line after → opening (Ok line) after ≡ opens_by h ws f
       opened line after o =
           let allowed : open_refusal plan h ws ≡ None = ap (λ (x : Plan). open_refusal x h ws) (sym same) ∙ o.allowed in

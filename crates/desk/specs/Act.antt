@@ -6,7 +6,7 @@ use Rattle.protocol.specs.declared.messages.Step.TheVariants.{Initial}
 use Rattle.protocol.specs.declared.messages.Subject.TheVariants.{Ballot}
 use Rattle.protocol.specs.declared.refusals.Refusal.{Refusal}
 use Rattle.protocol.specs.declared.refusals.Refusal.TheVariants.{MayNotAdvance}
-use Rattle.plan.specs.declared.drafts.Line.{Line}
+use Rattle.plan.specs.Kinds.{Line}
 use Rattle.memory.specs.Contents.{Held, case_at, serial_at, with_serial}
 use Rattle.memory.specs.Places.{case_place}
 use Rattle.row.specs.Order.{answer_at, left_at, picked}

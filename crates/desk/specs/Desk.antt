@@ -8,8 +8,7 @@ use Rattle.protocol.specs.declared.refusals.Refusal.TheVariants.{MarkRefused, Li
 use Rattle.plan.specs.Marks.{mark_answer, marks_after}
 use Rattle.plan.specs.Plans.{planned}
 use Rattle.plan.specs.declared.plans.Plan.{Plan}
-use Rattle.plan.specs.declared.drafts.Draft.{Draft}
-use Rattle.plan.specs.declared.drafts.Line.{Line}
+use Rattle.plan.specs.Kinds.{Draft, Line}
 use Rattle.item.specs.Tags.{tagged, number_of}
 use Rattle.item.specs.declared.tags.Tag.{Tag}
 use Rattle.coin.specs.Sides.{word_side}
@@ -62,7 +61,7 @@ module _ (plan : Plan) (marks : ℕ) where
   line_if false e = Err MarkRefused
   line_if true e =
       let a = and_parts (nat_le (count_ones marks) plan.t) (nat_lt marks (2 ^ plan.n)) e in
-      Ok record { plan = plan; marks = marks; few = leb-true (count_ones marks) plan.t a.0; inside = ltb-true marks (2 ^ plan.n) a.1 }
+      Ok record { plan = plan; marks = marks; state = record {}; few = leb-true (count_ones marks) plan.t a.0; inside = ltb-true marks (2 ^ plan.n) a.1 }
 
   -- the line with this plan and these marks; the marks of a draft make one
   unfoldable pub line_of : Result Line Refusal
@@ -96,10 +95,10 @@ module _ (h : Held) (ws : List Message) where
 
   -- a form that is not for a line is out of place
   abbrev pub opens_by : Form → Opening
-  opens_by (form.Line n t ms) = opens n t ms
+  opens_by (form.Line l) = opens l.counters l.tolerate l.strange
   opens_by (form.Announce c t) = opening (Err LineOutOfPlace) h
   opens_by (form.Open c k v) = opening (Err LineOutOfPlace) h
-  opens_by (form.Forge f c st su b) = opening (Err LineOutOfPlace) h
+  opens_by (form.Forge g) = opening (Err LineOutOfPlace) h
   opens_by (form.Deliver c p) = opening (Err LineOutOfPlace) h
   opens_by (form.Advance c k) = opening (Err LineOutOfPlace) h
 
@@ -113,10 +112,10 @@ forging (Ok m) = Ok (Forge m)
 forging (Err e) = Err e
 
 abbrev pub asks : Form → Result Turn Refusal
-asks (form.Line n t ms) = Err LineOutOfPlace
+asks (form.Line l) = Err LineOutOfPlace
 asks (form.Announce c t) = announcing c (tagged t)
 asks (form.Open c k v) = Ok (Open c k v)
-asks (form.Forge f c st su b) = forging (made f c st su b)
+asks (form.Forge g) = forging (made g.from g.to g.step g.subject g.body)
 asks (form.Deliver c p) = Ok (Deliver c p)
 asks (form.Advance c k) = Ok (Advance c k)
 

@@ -32,15 +32,10 @@ fn draft_marked(plan: Plan, marks: &Marks) -> Result<Draft, Refusal>
 pub(crate) fn open(memory: &mut Memory, basket: &Basket, form: Form) -> Result<Line, Refusal>
     ensures { opened result (held memory.new) ≡ opens_by (held memory.old) (waiting_in basket.now) form }
 {
-    let Form::Line {
-        counters,
-        tolerate,
-        strange,
-    } = form
-    else {
+    let Form::Line(wanted) = form else {
         return Err(Refusal::LineOutOfPlace);
     };
-    let plan = Plan::new(counters, tolerate, SERIALS, CASES, PHASES)?;
-    let draft = draft_marked(plan, &strange)?;
+    let plan = Plan::new(wanted.counters, wanted.tolerate, SERIALS, CASES, PHASES)?;
+    let draft = draft_marked(plan, &wanted.strange)?;
     open_line(draft, memory, basket).map_err(|(refusal, _)| refusal)
 }

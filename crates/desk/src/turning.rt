@@ -2,7 +2,7 @@
 ghost use Rattle.std.specs.Prelude.{◌≡◌};
 ghost use Rattle.desk.specs.Desk.{asks, asking};
 
-use form::Form;
+use form::{ForgeForm, Form};
 use item::Tag;
 use protocol::{Message, Refusal};
 use runs::Turn;
@@ -12,7 +12,7 @@ pub(crate) fn turn_of(form: Form) -> Result<Turn<Tag>, Refusal>
     ensures { asking result ≡ asks form }
 {
     match form {
-        Form::Line { .. } => Err(Refusal::LineOutOfPlace),
+        Form::Line(_) => Err(Refusal::LineOutOfPlace),
         Form::Announce { counter, tag } => Tag::new(tag).map(|value| Turn::Announce {
             process: counter,
             value,
@@ -26,13 +26,13 @@ pub(crate) fn turn_of(form: Form) -> Result<Turn<Tag>, Refusal>
             case,
             vote,
         }),
-        Form::Forge {
+        Form::Forge(ForgeForm {
             from,
             to,
             step,
             subject,
             body,
-        } => Message::new(from, to, step, subject, body).map(|message| Turn::Forge { message }),
+        }) => Message::new(from, to, step, subject, body).map(|message| Turn::Forge { message }),
         Form::Deliver { counter, pick } => Ok(Turn::Deliver {
             process: counter,
             pick,

@@ -5,6 +5,8 @@ use Rattle.protocol.specs.declared.messages.Step.{Step}
 use Rattle.protocol.specs.declared.messages.Step.TheVariants.{Initial, Echo, Ready}
 use Rattle.protocol.specs.declared.messages.Subject.{Subject}
 use Rattle.protocol.specs.declared.messages.Subject.TheVariants.{Item, Ballot}
+use Rattle.form.specs.declared.forms.LineForm.{LineForm}
+use Rattle.form.specs.declared.forms.ForgeForm.{ForgeForm}
 use Rattle.form.specs.declared.forms.Form.{Form}
 use Rattle.form.specs.declared.forms.Form.TheVariants.{Line, Announce, Open as Opening, Forge, Deliver, Advance}
 
@@ -21,15 +23,21 @@ abbrev pub subjected : Subject → List ℕ
 subjected (Item o n) = codes "(item " ++ (decimal o ++ (codes " " ++ (decimal n ++ codes ")")))
 subjected (Ballot o c r) = codes "(ballot " ++ (decimal o ++ (codes " " ++ (decimal c ++ (codes " " ++ (decimal r ++ codes ")")))))
 
+abbrev pub lined : LineForm → List ℕ
+lined l =
+    codes "(line (counters " ++ (decimal l.counters ++ (codes ") (tolerate " ++ (decimal l.tolerate ++ (codes ") (strange" ++ (marked l.strange ++ codes "))")))))
+
+abbrev pub forged : ForgeForm → List ℕ
+forged g =
+    codes "(forge (from " ++ (decimal g.from ++ (codes ") (to " ++ (decimal g.to ++ (codes ") (" ++ (stepped g.step ++ (codes " " ++ (subjected g.subject ++ (codes ") (body " ++ (decimal g.body ++ codes "))")))))))))
+
 -- the text of a form
 abbrev pub written : Form → List ℕ
-written (Line n t ms) =
-    codes "(line (counters " ++ (decimal n ++ (codes ") (tolerate " ++ (decimal t ++ (codes ") (strange" ++ (marked ms ++ codes "))")))))
+written (Line l) = lined l
 written (Announce c t) = codes "(announce (counter " ++ (decimal c ++ (codes ") (tag " ++ (decimal t ++ codes "))")))
 written (Opening c n v) =
     codes "(open (counter " ++ (decimal c ++ (codes ") (case " ++ (decimal n ++ (codes ") (vote " ++ (decimal v ++ codes "))")))))
-written (Forge f c st su b) =
-    codes "(forge (from " ++ (decimal f ++ (codes ") (to " ++ (decimal c ++ (codes ") (" ++ (stepped st ++ (codes " " ++ (subjected su ++ (codes ") (body " ++ (decimal b ++ codes "))")))))))))
+written (Forge g) = forged g
 written (Deliver c n) = codes "(deliver (counter " ++ (decimal c ++ (codes ") (pick " ++ (decimal n ++ codes "))")))
 written (Advance c n) = codes "(advance (counter " ++ (decimal c ++ (codes ") (case " ++ (decimal n ++ codes "))")))
 
@@ -46,9 +54,9 @@ MarksFit ms = (length ms ≤ 16) × AllByRecursion Fits64 ms
 
 -- a form that a program can hold: its numbers have 64 bits
 abbrev pub FormFits : Form → Type 0
-FormFits (Line n t ms) = Fits64 n × (Fits64 t × MarksFit ms)
+FormFits (Line l) = Fits64 l.counters × (Fits64 l.tolerate × MarksFit l.strange)
 FormFits (Announce c t) = Fits64 c × Fits64 t
 FormFits (Opening c n v) = Fits64 c × (Fits64 n × Fits64 v)
-FormFits (Forge f c st su b) = Fits64 f × (Fits64 c × (SubjectFits su × Fits64 b))
+FormFits (Forge g) = Fits64 g.from × (Fits64 g.to × (SubjectFits g.subject × Fits64 g.body))
 FormFits (Deliver c n) = Fits64 c × Fits64 n
 FormFits (Advance c n) = Fits64 c × Fits64 n

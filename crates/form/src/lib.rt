@@ -4,7 +4,6 @@
 
 mod forms;
 mod marks;
-mod writer;
 
-pub use forms::Form;
+pub use forms::{ForgeForm, Form, LineForm};
 pub use marks::{Full, Marks};

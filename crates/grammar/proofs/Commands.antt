@@ -13,19 +13,19 @@ use Rattle.grammar.proofs.Values.{step_part, subject_part, subject_tokens, mark_
 
 -- the word of a form, and the tokens behind it
 abbrev named : Form → List ℕ
-named (Line n t ms) = codes "line"
+named (Line l) = codes "line"
 named (Announce c t) = codes "announce"
 named (Opening c n v) = codes "open"
-named (Forge f c st su b) = codes "forge"
+named (Forge g) = codes "forge"
 named (Deliver c n) = codes "deliver"
 named (Advance c n) = codes "advance"
 
 abbrev detailed : Form → List (List ℕ) → List (List ℕ)
-detailed (Line n t ms) rest = fielded (codes "counters") n (fielded (codes "tolerate") t (codes " " ∷ codes "(" ∷ codes "strange" ∷ mark_tokens ms (codes ")" ∷ rest)))
+detailed (Line l) rest = fielded (codes "counters") l.counters (fielded (codes "tolerate") l.tolerate (codes " " ∷ codes "(" ∷ codes "strange" ∷ mark_tokens l.strange (codes ")" ∷ rest)))
 detailed (Announce c t) rest = fielded (codes "counter") c (fielded (codes "tag") t (codes ")" ∷ rest))
 detailed (Opening c n v) rest = fielded (codes "counter") c (fielded (codes "case") n (fielded (codes "vote") v (codes ")" ∷ rest)))
-detailed (Forge f c st su b) rest =
-    fielded (codes "from") f (fielded (codes "to") c (codes " " ∷ codes "(" ∷ stepped st ∷ subject_tokens su (codes ")" ∷ fielded (codes "body") b (codes ")" ∷ rest))))
+detailed (Forge g) rest =
+    fielded (codes "from") g.from (fielded (codes "to") g.to (codes " " ∷ codes "(" ∷ stepped g.step ∷ subject_tokens g.subject (codes ")" ∷ fielded (codes "body") g.body (codes ")" ∷ rest))))
 detailed (Deliver c n) rest = fielded (codes "counter") c (fielded (codes "pick") n (codes ")" ∷ rest))
 detailed (Advance c n) rest = fielded (codes "counter") c (fielded (codes "case") n (codes ")" ∷ rest))
 
@@ -43,7 +43,7 @@ abbrev Makes : {A : Type 0} → ((Form → Shape) → Shape) → (A → Form) �
 Makes part make = Part part make (λ x. FormFits (make x)) (λ x. detailed (make x))
 
 abbrev lines : ℕ × (ℕ × List ℕ) → Form
-lines x = Line x.0 x.1.0 x.1.1
+lines x = Line (record { counters = x.0; tolerate = x.1.0; strange = x.1.1 })
 
 abbrev announces : ℕ × ℕ → Form
 announces x = Announce x.0 x.1
@@ -52,7 +52,7 @@ abbrev openings : ℕ × (ℕ × ℕ) → Form
 openings x = Opening x.0 x.1.0 x.1.1
 
 abbrev forges : ℕ × (ℕ × (Step × (Subject × ℕ))) → Form
-forges x = Forge x.0 x.1.0 x.1.1.0 x.1.1.1.0 x.1.1.1.1
+forges x = Forge (record { from = x.0; to = x.1.0; step = x.1.1.0; subject = x.1.1.1.0; body = x.1.1.1.1 })
 
 abbrev delivers : ℕ × ℕ → Form
 delivers x = Deliver x.0 x.1
@@ -63,7 +63,7 @@ advances x = Advance x.0 x.1
 line_part : Makes line lines
 unfolding all_marks
 line_part =
-    both (λ (n : ℕ) (x : ℕ × List ℕ). Line n x.0 x.1) (field_part (codes "counters") refl)
+    both (λ (n : ℕ) (x : ℕ × List ℕ). lines (n, x)) (field_part (codes "counters") refl)
     (both (λ (t : ℕ) (ms : List ℕ). (t, ms)) (field_part (codes "tolerate") refl)
     (behind (behind (behind (ahead strange_part (codes ")") refl) (codes "strange") refl) (codes "(") refl) (codes " ") refl))
 
@@ -81,7 +81,7 @@ opening_part =
 
 forge_part : Makes forge forges
 forge_part =
-    both (λ (f : ℕ) (x : ℕ × (Step × (Subject × ℕ))). Forge f x.0 x.1.0 x.1.1.0 x.1.1.1) (field_part (codes "from") refl)
+    both (λ (f : ℕ) (x : ℕ × (Step × (Subject × ℕ))). forges (f, x)) (field_part (codes "from") refl)
     (both (λ (c : ℕ) (x : Step × (Subject × ℕ)). (c, x)) (field_part (codes "to") refl)
     (behind (behind
     (both_free (λ (st : Step) (x : Subject × ℕ). (st, x)) step_part
@@ -118,18 +118,18 @@ command_part =
     heads goes
   where
     heads : (f : Form) → Offered commands (named f)
-    heads (Line n t ms) = (refl, refl)
+    heads (Line l) = (refl, refl)
     heads (Announce c t) = (refl, refl)
     heads (Opening c n v) = (refl, refl)
-    heads (Forge f c st su b) = (refl, refl)
+    heads (Forge g) = (refl, refl)
     heads (Deliver c n) = (refl, refl)
     heads (Advance c n) = (refl, refl)
 
     goes : (k : Form → Shape) (f : Form) (rest : List (List ℕ)) (g : Form) → FormFits f → Yields (k f) rest g → Yields (after k (named f)) (detailed f rest) g
-    goes k (Line n t ms) rest g h y = line_part.made k (n, (t, ms)) rest g h y
+    goes k (Line l) rest f h y = line_part.made k (l.counters, (l.tolerate, l.strange)) rest f h y
     goes k (Announce c t) rest g h y = announce_part.made k (c, t) rest g h y
     goes k (Opening c n v) rest g h y = opening_part.made k (c, (n, v)) rest g h y
-    goes k (Forge f c st su b) rest g h y = forge_part.made k (f, (c, (st, (su, b)))) rest g h y
+    goes k (Forge g) rest f h y = forge_part.made k (g.from, (g.to, (g.step, (g.subject, g.body)))) rest f h y
     goes k (Deliver c n) rest g h y = deliver_part.made k (c, n) rest g h y
     goes k (Advance c n) rest g h y = advance_part.made k (c, n) rest g h y
 

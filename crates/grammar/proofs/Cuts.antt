@@ -51,9 +51,9 @@ strange_cut [] = refl
 strange_cut (m ∷ ms) = refl
 
 pub pieces_written : (f : Form) → FormFits f → pieces (written f) ≡ tokens f
-pieces_written (Line n t ms) h = rw (closed n _ h.0, closed t _ h.1.0, strange_cut ms, marks_cut ms h.1.1.1)
+pieces_written (Line l) h = rw (closed l.counters _ h.0, closed l.tolerate _ h.1.0, strange_cut l.strange, marks_cut l.strange h.1.1.1)
 pieces_written (Announce c t) h = rw (closed c _ h.0, closed t _ h.1)
 pieces_written (Opening c n v) h = rw (closed c _ h.0, closed n _ h.1.0, closed v _ h.1.1)
-pieces_written (Forge f c st su b) h = rw (closed f _ h.0, closed c _ h.1.0, step_cut st, subject_cut su _ h.1.1.0, closed b _ h.1.1.1)
+pieces_written (Forge g) h = rw (closed g.from _ h.0, closed g.to _ h.1.0, step_cut g.step, subject_cut g.subject _ h.1.1.0, closed g.body _ h.1.1.1)
 pieces_written (Deliver c n) h = rw (closed c _ h.0, closed n _ h.1)
 pieces_written (Advance c n) h = rw (closed c _ h.0, closed n _ h.1)

@@ -71,7 +71,7 @@ abbrev pub line : (Form → Shape) → Shape
 line k =
     field (codes "counters") (λ n. field (codes "tolerate") (λ t.
     word (codes " ") (λ _. word (codes "(") (λ _. word (codes "strange") (λ _. all_marks (λ ms.
-    word (codes ")") (λ _. k (Line n t ms))))))))
+    word (codes ")") (λ _. k (Line (record { counters = n; tolerate = t; strange = ms })))))))))
 
 abbrev pub announce : (Form → Shape) → Shape
 announce k = field (codes "counter") (λ c. field (codes "tag") (λ t. word (codes ")") (λ _. k (Announce c t))))
@@ -102,7 +102,7 @@ abbrev pub forge : (Form → Shape) → Shape
 forge k =
     field (codes "from") (λ f. field (codes "to") (λ c.
     word (codes " ") (λ _. word (codes "(") (λ _. step (λ st. subject (λ su. word (codes ")") (λ _.
-    field (codes "body") (λ b. word (codes ")") (λ _. k (Forge f c st su b))))))))))
+    field (codes "body") (λ b. word (codes ")") (λ _. k (Forge (record { from = f; to = c; step = st; subject = su; body = b })))))))))))
 
 abbrev pub deliver : (Form → Shape) → Shape
 deliver k = field (codes "counter") (λ c. field (codes "pick") (λ n. word (codes ")") (λ _. k (Deliver c n))))

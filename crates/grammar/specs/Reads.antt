@@ -1,11 +1,11 @@
 -- What the reader's functions do to a cursor, whatever the line goes on with.
 use Rattle.std.specs.Prelude.{◌≡◌, ℕ, Bool, cond, List, Ok, Err, Result}
 use Rattle.token.specs.declared.cursor.Cursor.{Cursor}
-use Rattle.token.specs.declared.lex.Token.{Token}
 use Rattle.token.specs.Scan.{left, here}
 use Rattle.token.specs.Tokens.{spelling, Suits}
 use Rattle.grammar.specs.declared.fault.FormFault.{FormFault}
 use Rattle.grammar.specs.declared.fault.FormFault.TheVariants.{Unexpected}
+use Rattle.grammar.specs.declared.parts.Found.{Found}
 use Rattle.form.specs.declared.forms.Form.{Form}
 use Rattle.grammar.specs.Grammar.{Shape, done, next, run}
 
@@ -22,9 +22,9 @@ behind d (Err e) k = Err e
 abbrev pub Reads : {X : Type 0} → Cursor → Cursor → Result X FormFault → ((X → Shape) → Shape) → Type 0
 Reads {X} c d r G = (k : X → Shape) → ahead c (G k) ≡ behind d r k
 
--- a token of any kind
-abbrev pub Pulled : Cursor → Cursor → Result Token FormFault → Type 0
-Pulled c d (Ok t) = Suits t (spelling t) × ((fits : List ℕ → Bool) (then : List ℕ → Shape) → ahead c (next fits then) ≡ cond (fits (spelling t)) (ahead d (then (spelling t))) (Err (Unexpected (here c))))
+-- a token of any kind, and its place
+abbrev pub Pulled : Cursor → Cursor → Result Found FormFault → Type 0
+Pulled c d (Ok t) = (t.place ≡ here c) × (Suits t.token (spelling t.token) × ((fits : List ℕ → Bool) (then : List ℕ → Shape) → ahead c (next fits then) ≡ cond (fits (spelling t.token)) (ahead d (then (spelling t.token))) (Err (Unexpected t.place))))
 Pulled c d (Err e) = (fits : List ℕ → Bool) (then : List ℕ → Shape) → ahead c (next fits then) ≡ Err e
 
 -- the end of the line

@@ -6,4 +6,4 @@ mod fault;
 mod parts;
 
 pub use fault::FormFault;
-pub use parts::{expect, finish, pull, read_arg, read_field, read_number};
+pub use parts::{Found, expect, finish, pull, read_arg, read_field, read_number};

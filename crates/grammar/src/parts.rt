@@ -4,22 +4,31 @@ ghost use Rattle.grammar.specs.Reads.{Pulled, Reads, Ends};
 
 use crate::fault::FormFault;
 use form::Form;
-use token::{Cursor, Token};
+use token::{Cursor, Place, Token};
+
+/// A token, and its place.
+#[derive(Clone, Copy, Debug, PartialEq, Eq)]
+pub struct Found<'a> {
+    pub token: Token<'a>,
+    pub place: Place,
+}
 
 // The next token, which has to be there.
-pub fn pull<'a>(cursor: &mut Cursor<'a>) -> Result<Token<'a>, FormFault>
+pub fn pull<'a>(cursor: &mut Cursor<'a>) -> Result<Found<'a>, FormFault>
     ensures { Pulled cursor.old cursor.new result }
 {
     let place = cursor.place();
-    cursor.next()?.ok_or(FormFault::Unexpected(place))
+    let token = cursor.next_token()?.ok_or(FormFault::Unexpected(place))?;
+    Ok(Found { token, place })
 }
 
-// The end of the line behind a whole form.
+// The end of the line behind a whole form, which is given back as the answer: a clause tells
+// of the form that a line is.
 pub fn finish(cursor: &mut Cursor<'_>, form: Form) -> Result<Form, FormFault>
     ensures { Ends cursor.old form result }
 {
     let place = cursor.place();
-    match cursor.next()? {
+    match cursor.next_token()? {
         Some(_) => Err(FormFault::Unexpected(place)),
         None => Ok(form),
     }
@@ -29,8 +38,8 @@ pub fn finish(cursor: &mut Cursor<'_>, form: Form) -> Result<Form, FormFault>
 pub fn expect(cursor: &mut Cursor<'_>, bytes: &[u8]) -> Result<(), FormFault>
     ensures { Reads cursor.old cursor.new result (word bytes.now) }
 {
-    let place = cursor.place();
-    if pull(cursor)?.text() != bytes {
+    let Found { token, place } = pull(cursor)?;
+    if token.text() != bytes {
         return Err(FormFault::Unexpected(place));
     }
     Ok(())
@@ -40,8 +49,8 @@ pub fn expect(cursor: &mut Cursor<'_>, bytes: &[u8]) -> Result<(), FormFault>
 pub fn read_number(cursor: &mut Cursor<'_>) -> Result<u64, FormFault>
     ensures { Reads cursor.old cursor.new result number }
 {
-    let place = cursor.place();
-    match pull(cursor)? {
+    let Found { token, place } = pull(cursor)?;
+    match token {
         Token::Number { value, .. } => Ok(value),
         _ => Err(FormFault::Unexpected(place)),
     }

@@ -1,7 +1,15 @@
-// The type of a record. Its functions stand in `methods`, since a clause there may cite definitions that name it.
-ghost use Rattle.std.specs.Prelude.{◌≤◌};
+// A record: making one, reading its fields, and packing it into a body.
+ghost use Rattle.std.specs.Prelude.{◌≡◌, ◌≤◌};
 
-pub mod methods;
+use crate::items::Item;
+use protocol::Refusal;
+
+const LAST_KIND: u64 = 40;
+
+const LAST_COLOUR: u64 = 11;
+
+// Of the stations, of the days and of the shelves.
+const LAST: u64 = 0xffff;
 
 // The day is counted from 1 January 2000, which is day 0.
 #[derive(Clone, Copy, Debug, PartialEq, Eq)]
@@ -17,4 +25,93 @@ pub struct Record {
     ghost placed: { station ≤ 65535 },
     ghost dated: { day ≤ 65535 },
     ghost shelved: { shelf ≤ 65535 },
+}
+
+impl Record {
+    ghost use Rattle.item.specs.Records.{recorded};
+
+    // Refused where a field is out of its range.
+    pub fn new(
+        kind: u64,
+        colour: u64,
+        station: u64,
+        day: u64,
+        shelf: u64,
+    ) -> Result<Record, Refusal>
+        ensures { result ≡ recorded kind colour station day shelf }
+    {
+        if !(1..=LAST_KIND).contains(&kind) || colour > LAST_COLOUR {
+            return Err(Refusal::ValueOutOfRange);
+        }
+        if station > LAST || day > LAST || shelf > LAST {
+            return Err(Refusal::ValueOutOfRange);
+        }
+        Ok(Record {
+            kind: kind as u8,
+            colour: colour as u8,
+            station: station as u16,
+            day: day as u16,
+            shelf: shelf as u16,
+        })
+    }
+
+    pub fn kind(&self) -> u64
+        ensures { result ≡ self.now.kind }
+    {
+        u64::from(self.kind)
+    }
+
+    pub fn colour(&self) -> u64
+        ensures { result ≡ self.now.colour }
+    {
+        u64::from(self.colour)
+    }
+
+    pub fn station(&self) -> u64
+        ensures { result ≡ self.now.station }
+    {
+        u64::from(self.station)
+    }
+
+    pub fn day(&self) -> u64
+        ensures { result ≡ self.now.day }
+    {
+        u64::from(self.day)
+    }
+
+    pub fn shelf(&self) -> u64
+        ensures { result ≡ self.now.shelf }
+    {
+        u64::from(self.shelf)
+    }
+}
+
+impl Item for Record {
+    ghost use Rattle.item.specs.Records.{body_of, record_in};
+    ghost use Rattle.item.specs.Bodies.{record_faithful};
+
+    ghost unpacked = { record_in };
+
+    ghost ok = { λ _. Unit {0} };
+
+    ghost packed = { body_of };
+
+    ghost faithful = { record_faithful };
+
+    fn unpack(body: u64) -> Option<Record> {
+        let kind = body >> 56;
+        let colour = body >> 48 & 0xff;
+        let station = body >> 32 & 0xffff;
+        let day = body >> 16 & 0xffff;
+        let shelf = body & 0xffff;
+        Record::new(kind, colour, station, day, shelf).ok()
+    }
+
+    fn pack(&self) -> u64 {
+        self.kind() << 56
+            | self.colour() << 48
+            | self.station() << 32
+            | self.day() << 16
+            | self.shelf()
+    }
 }

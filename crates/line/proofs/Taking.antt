@@ -4,7 +4,7 @@ use Rattle.std.proofs.lemmas.Bool.{both_ways, cond-true, cond-false, eq-eqb, leb
 use Rattle.protocol.specs.Bags.{Same}
 use Rattle.protocol.specs.declared.messages.Message.{Message}
 use Rattle.protocol.proofs.Bags.{same_length}
-use Rattle.plan.specs.declared.drafts.Line.{Line}
+use Rattle.plan.specs.Kinds.{Line}
 use Rattle.plan.specs.declared.plans.Plan.{Plan}
 use Rattle.carrier.specs.Posting.{Posts}
 use Rattle.carrier.specs.Waiting.{addressed, waiting_for, Removed}

@@ -4,8 +4,7 @@ use Rattle.protocol.specs.declared.messages.Message.{Message}
 use Rattle.protocol.specs.declared.refusals.Refusal.{Refusal}
 use Rattle.protocol.specs.declared.refusals.Refusal.TheVariants.{MemoryTooSmall, MessageWaiting}
 use Rattle.plan.specs.declared.plans.Plan.{Plan}
-use Rattle.plan.specs.declared.drafts.Draft.{Draft}
-use Rattle.plan.specs.declared.drafts.Line.{Line}
+use Rattle.plan.specs.Kinds.{Draft, Line}
 use Rattle.memory.specs.Contents.{Held, cleared}
 use Rattle.memory.specs.Places.{enough}
 use Rattle.rules.specs.Turns.{unless}

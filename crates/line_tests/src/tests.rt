@@ -41,11 +41,6 @@ fn ballot(originator: u64, case: u64, round: u64) -> Subject {
     }
 }
 
-// What the places of a carrier hold before it is made.
-fn filler() -> Result<Message, Refusal> {
-    Message::new(15, 15, Step::Ready, ITEM, 1)
-}
-
 fn draft_with_faulty(plan: Plan, faulty: Range<u64>) -> Result<Draft, Refusal> {
     let mut draft = Draft::new(plan);
     for process in faulty {

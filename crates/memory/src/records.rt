@@ -26,7 +26,7 @@ impl Stage {
     }
 }
 
-// What a process keeps of one subject, beside the bodies that it heard.
+// What a process keeps of one subject, beside the bodies that it heard. Of one field, yet a record: it is what a place holds.
 #[derive(Clone, Copy, Debug, PartialEq, Eq)]
 pub struct BroadcastRecord {
     pub stage: Stage,

@@ -1,33 +1,27 @@
 -- Laws of a set that is kept as the bits of a number. Assumes nothing.
-use Rattle.std.proofs.Common.{◌≡◌, ℕ, zero, suc, ◌+◌, ◌-◌, ◌*◌, ◌/◌, ◌%◌, ◌^◌, ◌<◌, ◌≤◌, Bool, true, false, cond, ◌||◌, eqb, sym, ap, ◌∙◌, ⊎_elim, mod-lt, div-lt_iff_lt-mul, pow-suc, arith, lit<, pow_pos, pow_mono, pow-add}
-use native.Mathlib.Nat.{div-eq_of_lt, div_self, mod_self}
+use Rattle.std.proofs.Common.{◌≡◌, ℕ, zero, suc, ◌+◌, ◌*◌, ◌/◌, ◌%◌, ◌^◌, ◌<◌, ◌≤◌, Bool, true, false, cond, max, ◌||◌, eqb, sym, ap, ◌∙◌, ⊎_elim, mod-lt, div-lt_iff_lt-mul, pow-suc, pow_pos, lit<, arith}
+use native.Mathlib.Nat.{div_self, mod_self}
 use lib.Bits.{bit_or, or_lt, or_shr, or_mod, or_shifted, or_zero_r}
 use lib.Count.{ones, ones_step, ones_cat}
-use lib.Pow.{pow-lt, shl-shr, split, field, mod-mod-pow}
-use Rattle.std.proofs.lemmas.Bool.{eqb-false, eq-eqb, ne_eqb, or_left, cases_lt, cases_eq, cases_order, true≢false}
+use lib.Pow.{pow-lt, split}
+use Rattle.std.specs.Int.{bit_at}
+use Rattle.std.proofs.lemmas.Bool.{eqb-false, eq-eqb, ne_eqb, or_left, cases_lt, cases_eq, true≢false}
+use Rattle.std.proofs.lemmas.Nat.Bits.{bit_at_or, bit_at-pow_same, bit_at-pow_other, bit_at_above, bit_at_cat_low, bit_at-lt}
 use Rattle.protocol.specs.Counting.{below}
 use Rattle.protocol.proofs.Counting.{below_none, below_suc, below_alike}
 use Rattle.plan.specs.Marks.{marked}
 
--- bit i of m
-abbrev bit : ℕ → ℕ → ℕ
-bit m i = m / 2 ^ i % 2
-
-two_values : (x : ℕ) → x % 2 < 2
-two_values x = omega arith
-
-bit_clear : (m i : ℕ) → marked m i ≡ false → bit m i ≡ 0
+bit_clear : (m i : ℕ) → marked m i ≡ false → bit_at m i ≡ 0
 unfolding marked
-bit_clear m i h = let ne = eqb-false (bit m i) 1 h in ⊎_elim (λ e. absurd (ne e)) (λ n. omega (arith, two_values (m / 2 ^ i))) (cases_eq (bit m i) 1)
-
-pub marked_past : (m i : ℕ) → m < 2 ^ i → marked m i ≡ false
-unfolding marked
-marked_past m i h = ap (λ (q : ℕ). eqb (q % 2) 1) (div-eq_of_lt h)
+bit_clear m i h = let ne = eqb-false (bit_at m i) 1 h in ⊎_elim (λ e. absurd (ne e)) (λ n. omega (arith, bit_at-lt m i)) (cases_eq (bit_at m i) 1)
 
 -- a set of numbers below n
+pub marked_past : (n m i : ℕ) → m < 2 ^ n → n ≤ i → marked m i ≡ false
+unfolding marked
+marked_past n m i h le = ap (λ (x : ℕ). eqb x 1) (bit_at_above m n i h le)
+
 pub marked_inside : (n m i : ℕ) → m < 2 ^ n → marked m i ≡ true → i < n
-marked_inside n m i h set =
-    ⊎_elim (λ lt. lt) (λ ge. absurd (true≢false (sym set ∙ marked_past m i (omega (arith, pow_mono {i = n} {j = i} ge))))) (cases_lt i n)
+marked_inside n m i h set = ⊎_elim (λ lt. lt) (λ ge. absurd (true≢false (sym set ∙ marked_past n m i h ge))) (cases_lt i n)
 
 pub set_inside : (n m i : ℕ) → m < 2 ^ n → i < n → bit_or m (2 ^ i) < 2 ^ n
 set_inside n m i h lt = or_lt n m (2 ^ i) h (pow-lt lt)
@@ -57,47 +51,24 @@ set_ones m i h =
     let down = ap ones low in
     omega (arith, ones_split (bit_or m (2 ^ i)) i, ones_split m i, up, down, even_ones (m / 2 ^ i) even)
 
-bit_or_lem : (a b j : ℕ) → bit (bit_or a b) j ≡ bit_or (bit a j) (bit b j)
-bit_or_lem a b j = ap (λ (x : ℕ). x % 2) (or_shr a b j) ∙ or_mod (a / 2 ^ j) (b / 2 ^ j) 1
-
-power_here : (i : ℕ) → bit (2 ^ i) i ≡ 1
-power_here i = ap (λ (x : ℕ). x % 2) (div_self (pow_pos i))
-
-power_above : (i j : ℕ) → i < j → bit (2 ^ i) j ≡ 0
-power_above i j lt = ap (λ (x : ℕ). x % 2) (div-eq_of_lt (pow-lt lt))
-
-power_below : (i j : ℕ) → j < i → bit (2 ^ i) j ≡ 0
-power_below i j lt =
-    let d : ℕ = i - j - 1 in
-    let e : suc d + j ≡ i = omega arith in
-    ap (λ (x : ℕ). 2 ^ x / 2 ^ j % 2) (sym e) ∙ ap (λ (x : ℕ). x / 2 ^ j % 2) (pow-add 2 (suc d) j)
-    ∙ ap (λ (x : ℕ). x % 2) (shl-shr (2 ^ suc d) j) ∙ omega (arith, pow-suc 2 d)
-
-or_one : (b : ℕ) → b < 2 → bit_or b 1 ≡ 1
-or_one b h = ⊎_elim (λ e. ap (λ (x : ℕ). bit_or x 1) e) (λ ne. let e : b ≡ 1 = omega arith in ap (λ (x : ℕ). bit_or x 1) e) (cases_eq b 0)
-
 -- process i is in the set, and the others are as they were
 pub set_marked : (m i j : ℕ) → marked (bit_or m (2 ^ i)) j ≡ (eqb j i || marked m j)
 unfolding marked
-set_marked m i j = ⊎_elim here other (cases_eq j i) where
-  here : j ≡ i → eqb (bit (bit_or m (2 ^ i)) j) 1 ≡ (eqb j i || eqb (bit m j) 1)
+set_marked m i j = ap (λ (x : ℕ). eqb x 1) (bit_at_or m (2 ^ i) j) ∙ ⊎_elim here other (cases_eq j i) where
+  here : j ≡ i → eqb (max (bit_at m j) (bit_at (2 ^ i) j)) 1 ≡ (eqb j i || eqb (bit_at m j) 1)
   here e =
-      let one : bit (bit_or m (2 ^ i)) j ≡ 1 =
-      bit_or_lem m (2 ^ i) j ∙ ap (λ (x : ℕ). bit_or (bit m j) x) (ap (λ (k : ℕ). bit (2 ^ i) k) e ∙ power_here i) ∙ or_one (bit m j) (two_values (m / 2 ^ j)) in
-      ap (λ (x : ℕ). eqb x 1) one ∙ sym (or_left (eqb j i) (eqb (bit m j) 1) (eq-eqb j i e))
+      let same : bit_at (2 ^ i) j ≡ 1 = ap (λ (k : ℕ). bit_at (2 ^ i) k) e ∙ bit_at-pow_same i in
+      let one : max (bit_at m j) (bit_at (2 ^ i) j) ≡ 1 = omega (arith, same, bit_at-lt m j) in
+      ap (λ (x : ℕ). eqb x 1) one ∙ sym (or_left (eqb j i) (eqb (bit_at m j) 1) (eq-eqb j i e))
 
-  other : (j ≡ i → ⊥) → eqb (bit (bit_or m (2 ^ i)) j) 1 ≡ (eqb j i || eqb (bit m j) 1)
+  other : (j ≡ i → ⊥) → eqb (max (bit_at m j) (bit_at (2 ^ i) j)) 1 ≡ (eqb j i || eqb (bit_at m j) 1)
   other ne =
-      let none : bit (2 ^ i) j ≡ 0 = ⊎_elim (λ e. absurd (ne e)) (⊎_elim (λ lt. power_below i j lt) (λ gt. power_above i j gt)) (cases_order j i) in
-      let kept : bit (bit_or m (2 ^ i)) j ≡ bit m j = bit_or_lem m (2 ^ i) j ∙ ap (λ (x : ℕ). bit_or (bit m j) x) none ∙ or_zero_r (bit m j) in
-      ap (λ (x : ℕ). eqb x 1) kept ∙ sym (ap (λ (b : Bool). b || eqb (bit m j) 1) (ne_eqb j i ne))
+      let kept : max (bit_at m j) (bit_at (2 ^ i) j) ≡ bit_at m j = omega (arith, bit_at-pow_other i j ne) in
+      ap (λ (x : ℕ). eqb x 1) kept ∙ sym (ap (λ (b : Bool). b || eqb (bit_at m j) 1) (ne_eqb j i ne))
 
 -- the bits below n are those of the remainder
-low_bit : (n m k : ℕ) → k < n → bit (m % 2 ^ n) k ≡ bit m k
-low_bit n m k lt =
-    let d : ℕ = n - k - 1 in
-    let e : d + 1 + k ≡ n = omega arith in
-    ap (λ (x : ℕ). m % 2 ^ x / 2 ^ k % 2) (sym e) ∙ ap (λ (x : ℕ). x % 2) (field m (d + 1) k) ∙ mod-mod-pow (m / 2 ^ k) d 1
+low_bit : (n m k : ℕ) → k < n → bit_at (m % 2 ^ n) k ≡ bit_at m k
+low_bit n m k lt = sym (bit_at_cat_low (m / 2 ^ n) n (m % 2 ^ n) k lt) ∙ ap (λ (x : ℕ). bit_at x k) (split m n)
 
 one_bit : (q : ℕ) → q < 2 → cond (eqb (q % 2) 1) 1 0 ≡ ones q
 unfolding ones

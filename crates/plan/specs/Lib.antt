@@ -1,3 +1,4 @@
+pub mod Kinds
 pub mod Lines
 pub mod Marks
 pub mod Plans

@@ -2,8 +2,7 @@
 use Rattle.std.specs.Prelude.{◌≡◌, ◌≤◌}
 use Rattle.protocol.specs.Counting.{below}
 use Rattle.plan.specs.Marks.{marked}
-use Rattle.plan.specs.declared.drafts.Draft.{Draft}
-use Rattle.plan.specs.declared.drafts.Line.{Line}
+use Rattle.plan.specs.Kinds.{Draft, Line}
 
 -- the line has the plan and the marks of the draft, and so no more than t of its processes are marked
 pub record Becomes (draft : Draft) (line : Line) : Type 0 where

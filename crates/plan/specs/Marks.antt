@@ -1,12 +1,13 @@
 -- The set of processes that are marked faulty, as the bits of a number. Assumes nothing.
-use Rattle.std.specs.Prelude.{◌≡◌, ℕ, ◌/◌, ◌%◌, ◌^◌, Bool, cond, ◌&&◌, ◌||◌, is_ok, Ok, Err, Result, ◌==◌, bit_or, count_ones, nat_le}
+use Rattle.std.specs.Prelude.{◌≡◌, ℕ, ◌^◌, Bool, cond, ◌&&◌, ◌||◌, is_ok, Ok, Err, Result, ◌==◌, bit_or, count_ones, nat_le}
+use Rattle.std.specs.Int.{bit_at}
 use Rattle.protocol.specs.declared.refusals.Refusal.{Refusal}
 use Rattle.protocol.specs.declared.refusals.Refusal.TheVariants.{ProcessOutOfRange, MarkRefused}
 use Rattle.plan.specs.declared.plans.Plan.{Plan}
 
 -- whether bit i is set
 unfoldable pub marked : ℕ → ℕ → Bool
-marked marks i = marks / 2 ^ i % 2 == 1
+marked marks i = bit_at marks i == 1
 
 -- what marking process i answers: there is no such process; it is marked already, or t are
 abbrev pub mark_answer : Plan → ℕ → ℕ → Result (Unit {0}) Refusal

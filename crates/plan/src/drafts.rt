@@ -1,51 +1,66 @@
 // A plan with its faulty processes: while they are being marked, and from the opening on.
 ghost use Rattle.std.specs.Prelude.{◌≡◌, ◌^◌, ◌<◌, ◌≤◌, true, count_ones};
-ghost use Rattle.plan.specs.Marks.{marked, mark_answer, marks_after, Adds};
 
 use crate::plans::Plan;
 use protocol::Refusal;
+use std::marker::PhantomData;
 
 pub mod lines;
 
-// Here processes are marked faulty. The others are correct. Opening uses the draft up.
+// The faulty processes are marked, the others are correct. The state says whether more can be marked.
 #[derive(Drop)]
-pub struct Draft {
+pub struct Marked<S> {
     plan: Plan,
     marks: u16,
+    state: PhantomData<S>,
     ghost few: { count_ones marks ≤ plan.t },
     ghost inside: { marks < 2 ^ plan.n },
 }
 
-// What was a draft when it was opened. Nothing can be marked any more. It has the fields of a draft and not a draft: every
-// clause about a line reads them.
+// Before the opening.
 #[derive(Drop)]
-pub struct Line {
-    plan: Plan,
-    marks: u16,
-    ghost few: { count_ones marks ≤ plan.t },
-    ghost inside: { marks < 2 ^ plan.n },
-}
+pub struct Drafted;
 
-// Whether the bit of a process is set.
-pub(crate) fn is_marked(marks: u16, process: u64) -> bool
-    ensures { result ≡ marked marks process }
-{
-    process < 16 && (marks >> process) & 1 == 1
-}
+// From the opening on.
+#[derive(Drop)]
+pub struct Opened;
 
-impl Draft {
-    // Nothing is marked yet.
-    pub fn new(plan: Plan) -> Draft
-        ensures same { result.plan ≡ plan }
-        ensures none { result.marks ≡ 0 }
-    {
-        Draft { plan, marks: 0 }
-    }
+// Here processes are marked faulty. Opening uses the draft up.
+pub type Draft = Marked<Drafted>;
+
+// What was a draft when it was opened. Nothing can be marked any more.
+pub type Line = Marked<Opened>;
+
+impl<S> Marked<S> {
+    ghost use Rattle.plan.specs.Marks.{marked};
 
     pub fn plan(&self) -> Plan
         ensures { result ≡ self.now.plan }
     {
         self.plan
+    }
+
+    pub fn is_faulty(&self, process: u64) -> bool
+        ensures value { result ≡ marked self.now.marks process }
+        ensures within { result ≡ true → process < self.now.plan.n }
+    {
+        process < 16 && (self.marks >> process) & 1 == 1
+    }
+}
+
+impl Marked<Drafted> {
+    ghost use Rattle.plan.specs.Marks.{mark_answer, marks_after, Adds};
+
+    // Nothing is marked yet.
+    pub fn new(plan: Plan) -> Draft
+        ensures same { result.plan ≡ plan }
+        ensures none { result.marks ≡ 0 }
+    {
+        Marked {
+            plan,
+            marks: 0,
+            state: PhantomData,
+        }
     }
 
     // Refused for a process outside the plan, for one that is marked already, and past t marks.
@@ -63,12 +78,5 @@ impl Draft {
         }
         self.marks |= 1 << process;
         Ok(())
-    }
-
-    pub fn is_faulty(&self, process: u64) -> bool
-        ensures value { result ≡ marked self.now.marks process }
-        ensures within { result ≡ true → process < self.now.plan.n }
-    {
-        is_marked(self.marks, process)
     }
 }

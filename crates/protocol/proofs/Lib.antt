@@ -1,3 +1,4 @@
 pub mod Bags
 pub mod Counting
 pub mod Parts
+pub mod Phases

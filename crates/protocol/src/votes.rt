@@ -1,5 +1,6 @@
-// The sides of a case, and the ballots that are cast on it.
+// The sides of a case, the ballots that are cast on it, and the rounds that they are cast in.
 ghost use Rattle.std.specs.Prelude.{◌≡◌};
+ghost use Rattle.protocol.specs.Phases.{kind};
 ghost use Rattle.protocol.specs.Numbers.{side_number, ballot_number, Turns, vote, proposal};
 
 use crate::refusals::Refusal;
@@ -19,6 +20,14 @@ pub enum Ballot {
     ProposeKeep = 2,
     ProposeRelease = 3,
     Open = 4,
+}
+
+// The place of a round in its phase.
+#[derive(Clone, Copy, Debug, PartialEq, Eq)]
+pub enum Kind {
+    First,
+    Second,
+    Third,
 }
 
 impl Side {
@@ -53,6 +62,19 @@ impl Ballot {
         match side {
             Side::Keep => Ballot::ProposeKeep,
             Side::Release => Ballot::ProposeRelease,
+        }
+    }
+}
+
+impl Kind {
+    // Rounds count from 0 here.
+    pub fn of_round(round: u64) -> Kind
+        ensures { result ≡ kind round }
+    {
+        match round % 3 {
+            0 => Kind::First,
+            1 => Kind::Second,
+            _ => Kind::Third,
         }
     }
 }

@@ -3,8 +3,8 @@ ghost use Rattle.grammar.specs.Grammar.{reading, announce, opening, forge, deliv
 ghost use Rattle.grammar.specs.Exact.{Exact, Faults};
 ghost use Rattle.grammar.specs.Reads.{Reads};
 
-use form::{Form, Marks};
-use grammar::{FormFault, expect, finish, pull, read_arg, read_field, read_number};
+use form::{ForgeForm, Form, LineForm, Marks};
+use grammar::{FormFault, Found, expect, finish, pull, read_arg, read_field, read_number};
 use protocol::{Step, Subject};
 use token::Cursor;
 
@@ -54,8 +54,8 @@ fn read_advance(cursor: &mut Cursor<'_>) -> Result<Form, FormFault>
 fn read_step(cursor: &mut Cursor<'_>) -> Result<Step, FormFault>
     ensures { Reads cursor.old cursor.new result step }
 {
-    let place = cursor.place();
-    match pull(cursor)?.text() {
+    let Found { token, place } = pull(cursor)?;
+    match token.text() {
         b"initial" => Ok(Step::Initial),
         b"echo" => Ok(Step::Echo),
         b"ready" => Ok(Step::Ready),
@@ -91,8 +91,8 @@ fn read_subject(cursor: &mut Cursor<'_>) -> Result<Subject, FormFault>
 {
     expect(cursor, b" ")?;
     expect(cursor, b"(")?;
-    let place = cursor.place();
-    match pull(cursor)?.text() {
+    let Found { token, place } = pull(cursor)?;
+    match token.text() {
         b"item" => read_item(cursor),
         b"ballot" => read_ballot(cursor),
         _ => Err(FormFault::Unexpected(place)),
@@ -111,21 +111,21 @@ fn read_forge(cursor: &mut Cursor<'_>) -> Result<Form, FormFault>
     expect(cursor, b")")?;
     let body = read_field(cursor, b"body")?;
     expect(cursor, b")")?;
-    Ok(Form::Forge {
+    Ok(Form::Forge(ForgeForm {
         from,
         to,
         step,
         subject,
         body,
-    })
+    }))
 }
 
 // A space and one mark more, or the bracket behind the last.
 fn next_mark(cursor: &mut Cursor<'_>) -> Result<Option<u64>, FormFault>
     ensures { Reads cursor.old cursor.new result mark }
 {
-    let place = cursor.place();
-    match pull(cursor)?.text() {
+    let Found { token, place } = pull(cursor)?;
+    match token.text() {
         b")" => Ok(None),
         b" " => Ok(Some(read_number(cursor)?)),
         _ => Err(FormFault::Unexpected(place)),
@@ -156,18 +156,18 @@ fn read_line(cursor: &mut Cursor<'_>) -> Result<Form, FormFault>
     expect(cursor, b"strange")?;
     let strange = read_marks(cursor)?;
     expect(cursor, b")")?;
-    Ok(Form::Line {
+    Ok(Form::Line(LineForm {
         counters,
         tolerate,
         strange,
-    })
+    }))
 }
 
 fn read_command(cursor: &mut Cursor<'_>) -> Result<Form, FormFault>
     ensures { Reads cursor.old cursor.new result command }
 {
-    let place = cursor.place();
-    match pull(cursor)?.text() {
+    let Found { token, place } = pull(cursor)?;
+    match token.text() {
         b"line" => read_line(cursor),
         b"announce" => read_announce(cursor),
         b"open" => read_open(cursor),

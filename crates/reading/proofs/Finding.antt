@@ -3,7 +3,7 @@ use Rattle.std.proofs.Common.{◌≡◌, ℕ, None, Option, Result, ◌∙◌}
 use Rattle.std.proofs.lemmas.Bool.{cond-true, lt-ltb, not_from_false}
 use Rattle.protocol.specs.declared.messages.Subject.{Subject}
 use Rattle.protocol.specs.declared.refusals.Refusal.{Refusal}
-use Rattle.plan.specs.declared.drafts.Line.{Line}
+use Rattle.plan.specs.Kinds.{Line}
 use Rattle.memory.specs.Contents.{Held}
 use Rattle.rules.proofs.Theorem.{along, kept}
 use Rattle.reading.specs.Answers.{refusal, reading_of, unless_refused, answer, Alike}

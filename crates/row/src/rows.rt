@@ -6,7 +6,7 @@ ghost use Rattle.carrier.specs.Waiting.{capped, waiting_for, Posted};
 use protocol::{Message, Refusal};
 
 // The first `held` places have the messages that wait, in order of posting. The places are lent, so it is no list of its own.
-#[derive(Drop)]
+#[derive(Debug, Drop)]
 pub struct Row<'a> {
     places: &'a mut [Message],
     held: usize,

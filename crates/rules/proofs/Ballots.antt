@@ -1,13 +1,12 @@
 -- The ballots that a process has accepted, in memory and as the machine of broadcasts has them; case records that change.
-use Rattle.std.proofs.Common.{◌≡◌, ℕ, suc, ◌<◌, Bool, true, false, cond, ◌&&◌, eqb, List, ◌∷◌, length, get_or, Some, None, Option, sym, refl, ◌∙◌, subst, arith, length-set, get_or-set_other, get_or-set_same}
-use Rattle.std.proofs.lemmas.Bool.{both_ways, and_from, and_right, eq-eqb, ne_eqb, le-leb, cond-true, cond-false}
+use Rattle.std.proofs.Common.{◌≡◌, ℕ, suc, ◌<◌, Bool, true, false, cond, ◌&&◌, eqb, List, ◌∷◌, get_or, Some, None, Option, sym, refl, ◌∙◌, subst, arith, length-set, get_or-set_other, get_or-set_same}
+use Rattle.std.proofs.lemmas.Bool.{both_ways, and_from, and_right, eq-eqb, ne_eqb, cond-true, cond-false}
 use Rattle.protocol.specs.declared.messages.Subject.{Subject}
 use Rattle.protocol.specs.declared.messages.Subject.TheVariants.{Ballot}
 use Rattle.protocol.specs.declared.messages.Message.{Message}
 use Rattle.protocol.specs.declared.votes.Side.{Side}
-use Rattle.agreement.proofs.Bodies.{none_some}
-use Rattle.plan.specs.Plans.{needs_of}
-use Rattle.plan.specs.declared.drafts.Line.{Line}
+use Rattle.agreement.proofs.Bodies.{some_if}
+use Rattle.plan.specs.Kinds.{Line}
 use Rattle.memory.specs.Contents.{Held, silent, unopened, case_at, accepted_body}
 use Rattle.memory.specs.Places.{enough, within, place, case_place}
 use Rattle.memory.specs.declared.records.BroadcastRecord.{BroadcastRecord}
@@ -22,11 +21,7 @@ use Rattle.rules.specs.Turns.{moved}
 use Rattle.rules.specs.Runs.{Event, opened, advanced}
 use Rattle.rules.proofs.Stages.{shown_accepted}
 use Rattle.rules.proofs.Cases.{Tale, untold}
-use Rattle.rules.proofs.Shows.{Keeps}
-
-cond_some : (q : Bool) (o : Option ℕ) (b : ℕ) → cond q o None ≡ Some b → (q ≡ true) × (o ≡ Some b)
-cond_some true o b e = (refl, e)
-cond_some false o b e = absurd (none_some None b refl e)
+use Rattle.rules.proofs.Shows.{Keeps, as_large}
 
 module _ (line : Line) where
   -- memory with the same broadcast records has the same ballots
@@ -39,7 +34,7 @@ module _ (line : Line) where
     pub ballot_accepted : ballots_at line.plan h i c o r ≡ Some b → (within line.plan (Ballot o c (suc r)) ≡ true) × ((recs i (Ballot o c (suc r))).accepted ≡ Some b)
     unfolding ballots_at
     ballot_accepted e =
-        let x = cond_some (within line.plan (Ballot o c (suc r))) _ b e in
+        let x = some_if (within line.plan (Ballot o c (suc r))) _ b e in
         (x.0, sym (shown_accepted _ _ _ _ (keeps i (Ballot o c (suc r)) lt x.0).stage) ∙ x.1)
 
     pub accepted_ballot : within line.plan (Ballot o c (suc r)) ≡ true → (recs i (Ballot o c (suc r))).accepted ≡ Some b → ballots_at line.plan h i c o r ≡ Some b
@@ -62,9 +57,7 @@ module _ (line : Line) where
         both_ways _ apart (and_from _ _ (eq-eqb j i same.0) (eq-eqb d c same.1)))
 
     pub moved_large : enough line.plan later ≡ true
-    moved_large =
-        let size = sizes line.plan h large in
-        and_from _ _ (le-leb _ _ size.broadcasts) (and_from _ _ (le-leb _ _ size.bodies) (and_from _ _ (le-leb (needs_of line.plan).case_records (length later.cases) (omega (arith, size.cases, length-set h.cases (case_place line.plan i c) (record { round = round; decision = decision; slip = (case_at h (case_place line.plan i c)).slip })))) (le-leb _ _ size.serials)))
+    moved_large = as_large line.plan h later refl refl (length-set h.cases (case_place line.plan i c) _) refl large
 
 -- a ballot that is told leaves what was said of other subjects
 apart_subject : (a b e : Bool) → (a && b) ≡ false → (a && (b && e)) ≡ false

@@ -1,28 +1,27 @@
 -- Opening a case and advancing tell a ballot in the machine of broadcasts; asides leave it where it is.
-use Rattle.std.proofs.Common.{◌≡◌, ℕ, suc, ◌+◌, ◌-◌, ◌*◌, ◌/◌, ◌<◌, ◌≤◌, true, false, ◌&&◌, eqb, ltb, leb, List, [], ◌∷◌, ◌++◌, length, get_or, Some, None, Option, sym, refl, ap, ◌∙◌, subst, ap₂, subst₂, ⊎_elim, arith}
-use Rattle.std.proofs.lemmas.Bool.{eqb-true, and_parts, and_from, leb-true, ltb-true, ltb-false, lt-ltb, le-leb, cond-true, cond-false, cases_Bool}
-use Rattle.protocol.specs.Bags.{Same}
+use Rattle.std.proofs.Common.{◌≡◌, ℕ, suc, ◌+◌, ◌-◌, ◌*◌, ◌/◌, ◌<◌, ◌≤◌, true, false, ◌&&◌, eqb, ltb, List, [], ◌∷◌, ◌++◌, length, get_or, Some, None, Option, sym, refl, ap, ◌∙◌, subst, ap₂, subst₂, ⊎_elim, arith}
+use Rattle.std.proofs.lemmas.Bool.{eqb-true, and_parts, ltb-true, ltb-false, cond-true, cond-false, cases_Bool}
+use Rattle.protocol.specs.Bags.{count, Same}
 use Rattle.protocol.specs.Numbers.{ballot_number}
 use Rattle.protocol.specs.Sending.{to_all}
 use Rattle.agreement.specs.Runs.{same_subject}
 use Rattle.protocol.specs.declared.messages.Message.{Message}
 use Rattle.protocol.specs.declared.messages.Step.TheVariants.{Initial}
-use Rattle.protocol.specs.declared.messages.Subject.TheVariants.{Ballot}
+use Rattle.protocol.specs.declared.messages.Subject.{Subject}
+use Rattle.protocol.specs.declared.messages.Subject.TheVariants.{Item, Ballot}
 use Rattle.protocol.specs.declared.votes.Side.{Side}
 use Rattle.agreement.proofs.Bodies.{none_some}
-use Rattle.plan.specs.Plans.{needs_of}
-use Rattle.protocol.proofs.Bags.{count_append}
-use Rattle.plan.specs.declared.drafts.Line.{Line}
+use Rattle.plan.specs.Kinds.{Line}
 use Rattle.memory.specs.Contents.{Held, silent, case_at}
-use Rattle.memory.specs.Places.{enough, place, case_place}
+use Rattle.memory.specs.Places.{place, case_place}
 use Rattle.memory.specs.declared.records.BroadcastRecord.{BroadcastRecord}
 use Rattle.memory.specs.declared.records.CaseRecord.{CaseRecord}
 use Rattle.memory.specs.declared.records.Decision.{Decision}
-use Rattle.memory.proofs.Sizes.{sizes}
 use Rattle.agreement.specs.Runs as machine
 use Rattle.agreement.specs.Runs.{State, told}
 use Rattle.agreement.proofs.Bodies.{when_set, when_from}
 use Rattle.agreement.proofs.Waiting.{subject_same}
+use Rattle.ballots.proofs.Reading.{Covered, covered, ballot_within}
 use Rattle.cases.specs.Steps.{round_at, chosen, Law}
 use Rattle.cases.proofs.Going.{law}
 use Rattle.rules.specs.Turns.{said, settled, moved}
@@ -31,8 +30,8 @@ use Rattle.rules.proofs.Stages.{Shown}
 use Rattle.rules.proofs.Records.{Rows}
 use Rattle.rules.proofs.Cases.{CaseShown, Tale, same_tale, carried, all_carried, case_opened, case_advanced}
 use Rattle.rules.proofs.Ballots.{same_ballots, moved_here, moved_other, moved_large, said_other, said_round, opened_elsewhere, advanced_elsewhere}
-use Rattle.rules.proofs.Shows.{Shows, items_on, bodies_on, stranger, OpenAllowed, open_allowed, AdvanceAllowed, advance_allowed, no_stranger}
-use Rattle.rules.proofs.Follows.{Follow, joined_all}
+use Rattle.rules.proofs.Shows.{Shows, Mirrors, as_large, items_on, bodies_on, stranger, OpenAllowed, open_allowed, AdvanceAllowed, advance_allowed}
+use Rattle.rules.proofs.Follows.{Follow, joined_all, known_told}
 
 module _ (line : Line) (capacity : ℕ) (coin : Coin) (es : List Event) (h : Held) (ws : List Message) (st : State) (shows : Shows line coin es h ws st) where
   -- a ballot is said in a case of process i, or only its record changes
@@ -42,6 +41,15 @@ module _ (line : Line) (capacity : ℕ) (coin : Coin) (es : List Event) (h : Hel
     each later next now here there j d l b =
         ⊎_elim (λ (e : (eqb j i && eqb d c) ≡ true). let same = and_parts _ _ e in subst₂ (CaseShown line coin later next now) (sym (eqb-true j i same.0)) (sym (eqb-true d c same.1)) here) (λ (e : (eqb j i && eqb d c) ≡ false). there j d e l b)
         (cases_Bool (eqb j i && eqb d c))
+
+    mirrored : (round : ℕ) (decision : Option Decision) (told : Subject → Option ℕ) (waiting left : List Message) → ((j k : ℕ) → told (Item j k) ≡ st.said (Item j k)) → Same waiting left → count (stranger line) left ≡ 0 → Mirrors line (moved line i c round decision h) left (record { recs = st.recs; said = told; waiting = waiting })
+    mirrored round decision told waiting left same waits known = record {
+      large = moved_large line h shows.mirrors.large i c round decision lt below;
+      records = λ j s l w. let kept = shows.mirrors.records j s l w in record { stage = kept.stage; rows = kept.rows };
+      fresh = λ j k l used. same j k ∙ shows.mirrors.fresh j k l used;
+      waits = waits;
+      known = known;
+    }
 
     -- another case, where the record of this one is written
     apart : (later : List Event) (round : ℕ) (decision : Option Decision) (now : State) (j d : ℕ) → (eqb j i && eqb d c) ≡ false → j < line.plan.n → d < line.plan.cases → Tale es later j d → ((q : ℕ) → now.said (Ballot j d q) ≡ st.said (Ballot j d q)) → CaseShown line coin later (moved line i c round decision h) now j d
@@ -71,17 +79,11 @@ module _ (line : Line) (capacity : ℕ) (coin : Coin) (es : List Event) (h : Hel
 
     pub by_opened : Follow line coin st (opened i c v posted ∷ es) after left
     by_opened =
-        let inside = and_from _ _ (lt-ltb _ _ open_may.process) (and_from _ _ (lt-ltb _ _ open_may.case) (and_from _ _ refl (le-leb 1 (3 * line.plan.phases) (omega (arith, line.plan.first))))) in (
+        let inside = ballot_within line.plan i c 1 open_may.process open_may.case (omega arith) (omega (arith, line.plan.first)) in (
           open_state,
           λ run. machine.after run (machine.tell (Ballot i c 1) v left (open_may.process, open_may.correct) open_none (joined_all line capacity coin es h ws st shows line.plan.n i Initial (Ballot i c 1) v left d.carrier)),
           subst (λ x. Shows line coin (opened i c v posted ∷ es) x left open_state) (sym d.memory) (record {
-            mirrors = record {
-              large = moved_large line h shows.mirrors.large i c 1 _ open_may.process open_may.case;
-              records = λ j s l w. let kept = shows.mirrors.records j s l w in record { stage = kept.stage; rows = kept.rows };
-              fresh = shows.mirrors.fresh;
-              waits = λ p. refl;
-              known = omega (arith, d.carrier (stranger line), count_append (stranger line) (to_all line.plan.n i Initial (Ballot i c 1) v) ws, no_stranger line line.plan.n i Initial (Ballot i c 1) v open_may.process inside, shows.mirrors.known);
-            };
+            mirrors = mirrored i c open_may.process open_may.case 1 _ open_state.said left left (λ j k. refl) (λ p. refl) (known_told line capacity coin es h ws st shows i (Ballot i c 1) v left open_may.process inside d.carrier);
             items = items_on (opened i c v posted) es st open_state (λ j k b x. x) (λ j k. refl) shows.items;
             bodies = bodies_on line (opened i c v posted) es st open_state (λ j s b x. x) (λ j s. refl) shows.bodies;
             cases = record {
@@ -102,20 +104,15 @@ module _ (line : Line) (capacity : ℕ) (coin : Coin) (es : List Event) (h : Hel
     abbrev step_law : Law line.plan h i c (Some a.step)
     step_law = law line.plan h i c (Some a.step) (sym a.by)
 
-    round_within : (1 ≤ round_at line.plan h i c) × (round_at line.plan h i c ≤ 3 * line.plan.phases)
-    round_within =
-        let r₀ = round_at line.plan h i c in
-        let p₁ = and_parts (ltb i line.plan.n) (ltb c line.plan.cases && (leb 1 r₀ && (leb r₀ (3 * line.plan.phases) && enough line.plan h))) (step_law.covered a.step refl) in
-        let p₂ = and_parts (ltb c line.plan.cases) (leb 1 r₀ && (leb r₀ (3 * line.plan.phases) && enough line.plan h)) p₁.1 in
-        let p₃ = and_parts (leb 1 r₀) (leb r₀ (3 * line.plan.phases) && enough line.plan h) p₂.1 in
-        (leb-true 1 r₀ p₃.0, leb-true r₀ (3 * line.plan.phases) (and_parts (leb r₀ (3 * line.plan.phases)) (enough line.plan h) p₃.1).0)
+    round_within : Covered line.plan h i c (round_at line.plan h i c)
+    round_within = covered line.plan h i c _ (step_law.covered a.step refl)
 
     -- the round that is left, from 0
     abbrev q : ℕ
     q = round_at line.plan h i c - 1
 
     at : round_at line.plan h i c ≡ suc q
-    at = omega (arith, round_within.0)
+    at = omega (arith, round_within.first)
 
     r_is : r ≡ suc q
     r_is = a.from ∙ at
@@ -159,13 +156,7 @@ module _ (line : Line) (capacity : ℕ) (coin : Coin) (es : List Event) (h : Hel
           st,
           λ run. run,
           subst (λ y. Shows line coin onward y left st) (sym a.done.memory) (record {
-            mirrors = record {
-              large = moved_large line h shows.mirrors.large i c (r + 1) _ may_advance_lem.process may_advance_lem.case;
-              records = λ j s l w. let kept = shows.mirrors.records j s l w in record { stage = kept.stage; rows = kept.rows };
-              fresh = shows.mirrors.fresh;
-              waits = λ p. shows.mirrors.waits p ∙ sym (end p);
-              known = omega (arith, end (stranger line), shows.mirrors.known);
-            };
+            mirrors = mirrored i c may_advance_lem.process may_advance_lem.case (r + 1) _ st.said st.waiting left (λ j k. refl) (λ p. shows.mirrors.waits p ∙ sym (end p)) (omega (arith, end (stranger line), shows.mirrors.known));
             items = items_on (advanced i c (suc q) a.step.forced a.step.decides reached posted) es st st (λ j k b x. x) (λ j k. refl) shows.items;
             bodies = bodies_on line (advanced i c (suc q) a.step.forced a.step.decides reached posted) es st st (λ j s b x. x) (λ j s. refl) shows.bodies;
             cases = record {
@@ -186,17 +177,11 @@ module _ (line : Line) (capacity : ℕ) (coin : Coin) (es : List Event) (h : Hel
         let subject_is : r + 1 ≡ suc (suc q) = omega (arith, r_is) in
         let end : Same left (to_all n i Initial (Ballot i c (suc (suc q))) body ++ ws) =
         subst₂ (λ (k b : ℕ). Same left (to_all n i Initial (Ballot i c k) b ++ ws)) subject_is body_is (subst (λ ms. Same left (ms ++ ws)) (cond-true (ltb r (3 * line.plan.phases)) _ [] early) a.done.carrier) in
-        let inside = and_from _ _ (lt-ltb i n may_advance_lem.process) (and_from _ _ (lt-ltb c line.plan.cases may_advance_lem.case) (and_from _ _ (le-leb 1 (suc (suc q)) (omega arith)) (le-leb (suc (suc q)) (3 * line.plan.phases) (omega (arith, before, r_is))))) in (
+        let inside = ballot_within line.plan i c (suc (suc q)) may_advance_lem.process may_advance_lem.case (omega arith) (omega (arith, before, r_is)) in (
           ballot_state,
           λ run. machine.after run (machine.tell (Ballot i c (suc (suc q))) body left (may_advance_lem.process, may_advance_lem.correct) unsaid_next (joined_all line capacity coin es h ws st shows n i Initial (Ballot i c (suc (suc q))) body left end)),
           subst (λ y. Shows line coin onward y left ballot_state) (sym a.done.memory) (record {
-            mirrors = record {
-              large = moved_large line h shows.mirrors.large i c (r + 1) _ may_advance_lem.process may_advance_lem.case;
-              records = λ j s l w. let kept = shows.mirrors.records j s l w in record { stage = kept.stage; rows = kept.rows };
-              fresh = shows.mirrors.fresh;
-              waits = λ p. refl;
-              known = omega (arith, end (stranger line), count_append (stranger line) (to_all n i Initial (Ballot i c (suc (suc q))) body) ws, no_stranger line n i Initial (Ballot i c (suc (suc q))) body may_advance_lem.process inside, shows.mirrors.known);
-            };
+            mirrors = mirrored i c may_advance_lem.process may_advance_lem.case (r + 1) _ ballot_state.said left left (λ j k. refl) (λ p. refl) (known_told line capacity coin es h ws st shows i (Ballot i c (suc (suc q))) body left may_advance_lem.process inside end);
             items = items_on (advanced i c (suc q) a.step.forced a.step.decides reached posted) es st ballot_state (λ j k b x. x) (λ j k. refl) shows.items;
             bodies = bodies_on line (advanced i c (suc q) a.step.forced a.step.decides reached posted) es st ballot_state (λ j s b x. x) (λ j s. refl) shows.bodies;
             cases = record {
@@ -218,13 +203,7 @@ module _ (line : Line) (capacity : ℕ) (coin : Coin) (es : List Event) (h : Hel
   pub step_aside : (next : Held) → Aside h next → Shows line coin es next ws st
   step_aside next same = record {
     mirrors = record {
-      large =
-          let size = sizes line.plan h shows.mirrors.large in
-          let needs = needs_of line.plan in
-          and_from _ _ (le-leb needs.broadcast_records (length next.broadcasts) (omega (arith, size.broadcasts, ap (λ (xs : List BroadcastRecord). length xs) same.broadcasts)))
-          (and_from _ _ (le-leb needs.body_places (length next.bodies) (omega (arith, size.bodies, ap (λ (xs : List (Option ℕ)). length xs) same.bodies)))
-          (and_from _ _ (le-leb needs.case_records (length next.cases) (omega (arith, size.cases, same.cases)))
-          (le-leb needs.next_serials (length next.serials) (omega (arith, size.serials, ap (λ (xs : List ℕ). length xs) same.serials)))));
+      large = as_large line.plan h next (ap (λ (xs : List BroadcastRecord). length xs) same.broadcasts) (ap (λ (xs : List (Option ℕ)). length xs) same.bodies) same.cases (ap (λ (xs : List ℕ). length xs) same.serials) shows.mirrors.large;
       records = λ i s lt inside.
           let kept = shows.mirrors.records i s lt inside in
           let at = place line.plan i s in

@@ -7,10 +7,12 @@ use Rattle.protocol.specs.declared.votes.Ballot as votes
 use Rattle.protocol.specs.declared.votes.Side.{Side}
 use Rattle.protocol.specs.declared.votes.Side.TheVariants.{Keep, Release}
 use Rattle.agreement.proofs.Bodies.{none_some, some_once}
-use Rattle.plan.specs.declared.drafts.Line.{Line}
+use Rattle.plan.specs.Kinds.{Line}
 use Rattle.memory.specs.Contents.{Held, case_at}
 use Rattle.memory.specs.Places.{case_place}
-use Rattle.consensus.specs.Rounds.{Accepted, Third, kind, tally, Allows}
+use Rattle.protocol.specs.declared.votes.Kind.TheVariants.{Third}
+use Rattle.protocol.specs.Phases.{kind}
+use Rattle.consensus.specs.Rounds.{Accepted, tally, Allows}
 use Rattle.consensus.specs.Validity.{Justified, Part}
 use Rattle.consensus.specs.Decisions.{Tossed}
 use Rattle.consensus.specs.Accounts.{Left}

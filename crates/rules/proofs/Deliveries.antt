@@ -1,6 +1,6 @@
 -- A message that reaches a correct process does in memory what it does in the machine of broadcasts.
 use Rattle.std.proofs.Common.{◌≡◌, ℕ, ◌+◌, ◌-◌, ◌<◌, ◌≤◌, true, false, ◌&&◌, eqb, ◌≢◌, ◌⊎◌, List, length, get_or, Some, None, Option, sym, refl, ap, ◌∙◌, subst, subst₂, inl, inr, ⊎_elim, arith, length-set, get_or-set_other, get_or-set_same}
-use Rattle.std.proofs.lemmas.Bool.{both_ways, eqb-true, eq-eqb, and_parts, and_from, lt-ltb, le-leb, cond-true, cond_both}
+use Rattle.std.proofs.lemmas.Bool.{both_ways, eqb-true, eq-eqb, and_parts, and_from, lt-ltb, cond-true, cond_both}
 use Rattle.protocol.specs.Messages.{originator_of}
 use Rattle.agreement.specs.Runs.{same_subject}
 use Rattle.protocol.specs.declared.messages.Message.{Message}
@@ -9,7 +9,7 @@ use Rattle.protocol.specs.declared.messages.Step.TheVariants.{Initial, Echo, Rea
 use Rattle.protocol.specs.declared.messages.Subject.{Subject}
 use Rattle.plan.specs.Plans.{needs_of}
 use Rattle.plan.specs.Sheet.{thresholds_of}
-use Rattle.plan.specs.declared.drafts.Line.{Line}
+use Rattle.plan.specs.Kinds.{Line}
 use Rattle.memory.specs.Contents.{Held, silent, stage_at}
 use Rattle.memory.specs.Places.{enough, within, place, readies, placed}
 use Rattle.memory.specs.declared.records.BroadcastRecord.{BroadcastRecord}
@@ -27,7 +27,7 @@ use Rattle.agreement.proofs.Waiting.{same_subject_true, subject_same}
 use Rattle.rules.proofs.Rows.{heard_length, heard_elsewhere}
 use Rattle.rules.proofs.Stages.{Shown, onward, Follows}
 use Rattle.rules.proofs.Records.{world_of, Rows, rows_made, follows_made}
-use Rattle.rules.proofs.Shows.{Keeps}
+use Rattle.rules.proofs.Shows.{Keeps, as_large}
 
 -- a stage that is put in its place
 module _ (at : ℕ) (rs : List BroadcastRecord) where
@@ -97,12 +97,7 @@ module _ (line : Line) (h : Held) (large : enough line.plan h ≡ true) (m : Mes
   q_inside = (laid line.plan).inside m.addressee m.subject to inside
 
   pub landed_large : enough line.plan landed ≡ true
-  landed_large =
-      let needs = needs_of line.plan in
-      let size = sizes line.plan h large in
-      and_from _ _ (le-leb needs.broadcast_records (length landed.broadcasts) (omega (arith, size.broadcasts, put_length q h.broadcasts turned.next)))
-      (and_from _ _ (le-leb needs.body_places (length landed.bodies) (omega (arith, size.bodies, all_heard line m stage q h.bodies)))
-      (and_from _ _ (le-leb _ _ size.cases) (le-leb _ _ size.serials)))
+  landed_large = as_large line.plan h landed (put_length q h.broadcasts turned.next) (all_heard line m stage q h.bodies) refl refl large
 
   -- what the machine makes of a record
   abbrev pub made : (u : Subject) → Rec → Rec

@@ -1,6 +1,6 @@
 -- Turns on items are turns of the machine of broadcasts, and a refused one changes nothing.
 use Rattle.std.proofs.Common.{◌≡◌, ℕ, suc, ◌+◌, ◌<◌, ◌≤◌, Bool, true, false, cond, ◌&&◌, eqb, List, [], ◌∷◌, ◌++◌, length, get_or, set, Some, None, sym, refl, ap, ◌∙◌, subst, ap₂, subst₂, inl, inr, ⊎_elim, arith, length-set, get_or-set_other, get_or-set_same}
-use Rattle.std.proofs.lemmas.Bool.{both_ways, eqb-true, eqb-false, eq-eqb, and_parts, and_from, lt-ltb, le-leb, cond-true, cond-false, cases_Bool}
+use Rattle.std.proofs.lemmas.Bool.{both_ways, eqb-true, eqb-false, eq-eqb, and_parts, and_from, lt-ltb, cond-true, cond-false, cases_Bool}
 use Rattle.protocol.specs.Bags.{count, Same}
 use Rattle.protocol.specs.Sending.{to_all}
 use Rattle.protocol.specs.declared.messages.Message.{Message}
@@ -9,7 +9,7 @@ use Rattle.protocol.specs.declared.messages.Step.TheVariants.{Initial, Echo, Rea
 use Rattle.protocol.specs.declared.messages.Subject.TheVariants.{Item, Ballot}
 use Rattle.protocol.specs.declared.refusals.Refusal.{Refusal}
 use Rattle.protocol.proofs.Bags.{count_none, count_cons, count_append}
-use Rattle.plan.specs.declared.drafts.Line.{Line}
+use Rattle.plan.specs.Kinds.{Line}
 use Rattle.memory.specs.Contents.{Held, serial_at, with_serial}
 use Rattle.memory.specs.Places.{enough, within}
 use Rattle.memory.proofs.Sizes.{sizes}
@@ -27,10 +27,10 @@ use Rattle.rules.specs.Turns.{faulty, refusal, Deliver, reacted, replies, Done}
 use Rattle.rules.specs.Runs.{Event, refused, announced, forged, delivered, Coin, Announces, Delivers, Happens}
 use Rattle.rules.proofs.Records.{world_of}
 use Rattle.rules.proofs.Ballots.{same_ballots, ballot_accepted, accepted_ballot}
-use Rattle.rules.proofs.Shows.{Shows, items_on, bodies_on, stranger, AnnounceAllowed, announce_allowed, forge_allowed, deliver_allowed, no_stranger, no_strange_sender, not_stranger}
+use Rattle.rules.proofs.Shows.{Shows, as_large, items_on, bodies_on, stranger, AnnounceAllowed, announce_allowed, forge_allowed, deliver_allowed, no_stranger, no_strange_sender, not_stranger}
 use Rattle.rules.proofs.Deliveries as deliveries
 use Rattle.rules.proofs.Sending.{in_front}
-use Rattle.rules.proofs.Follows.{Follow, joined_all, still}
+use Rattle.rules.proofs.Follows.{Follow, joined_all, known_told, still}
 
 module _ (line : Line) (capacity : ℕ) (coin : Coin) (es : List Event) (h : Held) (ws : List Message) (st : State) (shows : Shows line coin es h ws st) where
   pub by_refused : (turn : _) (e : Refusal) (after : Held) (left : List Message) → Happens line capacity h ws coin (refused turn e) after left → Follow line coin st (refused turn e ∷ es) after left
@@ -103,9 +103,7 @@ module _ (line : Line) (capacity : ℕ) (coin : Coin) (es : List Event) (h : Hel
         (cases_Bool (eqb j i && eqb l k))
 
     later_large : enough line.plan later ≡ true
-    later_large =
-        let size = sizes line.plan h shows.mirrors.large in
-        and_from _ _ (le-leb _ _ size.broadcasts) (and_from _ _ (le-leb _ _ size.bodies) (and_from _ _ (le-leb _ _ size.cases) (le-leb _ (length later.serials) (omega (arith, size.serials, length-set h.serials i (k + 1))))))
+    later_large = as_large line.plan h later refl refl refl (length-set h.serials i (k + 1)) shows.mirrors.large
 
     shown : Shows line coin (announced i b k posted ∷ es) later left next
     shown = record {
@@ -114,7 +112,7 @@ module _ (line : Line) (capacity : ℕ) (coin : Coin) (es : List Event) (h : Hel
         records = λ j s lt inside. let kept = shows.mirrors.records j s lt inside in record { stage = kept.stage; rows = kept.rows };
         fresh = fresh_next;
         waits = λ p. refl;
-        known = omega (arith, a.done.carrier (stranger line), count_append (stranger line) (to_all line.plan.n i Initial (Item i k) b) ws, no_stranger line line.plan.n i Initial (Item i k) b may.process item_inside, shows.mirrors.known);
+        known = known_told line capacity coin es h ws st shows i (Item i k) b left may.process item_inside a.done.carrier;
       };
       items = record {
         announces = λ j l c t.

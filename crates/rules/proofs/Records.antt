@@ -8,7 +8,7 @@ use Rattle.protocol.specs.declared.messages.Step.{Step}
 use Rattle.protocol.specs.declared.messages.Step.TheVariants.{Initial, Echo, Ready}
 use Rattle.protocol.proofs.Counting.{below_alike}
 use Rattle.plan.specs.Sheet.{thresholds_of}
-use Rattle.plan.specs.declared.drafts.Line.{Line}
+use Rattle.plan.specs.Kinds.{Line}
 use Rattle.memory.specs.Places.{echoes, readies, placed}
 use Rattle.memory.specs.declared.records.Stage.{Stage}
 use Rattle.memory.specs.declared.records.Stage.TheVariants.{Silent, Echoed, Readied}

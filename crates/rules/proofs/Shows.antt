@@ -1,6 +1,7 @@
 -- How a run stands to a run of the machine of broadcasts.
-use Rattle.std.proofs.Common.{◌≡◌, ℕ, zero, suc, ◌<◌, ◌≤◌, Bool, true, false, not, ◌&&◌, eqb, ltb, leb, List, [], ◌∷◌, length, Some, None, Option, sym, refl, ap, ◌∙◌, subst, inr, ⊎_elim, arith}
-use Rattle.std.proofs.lemmas.Bool.{and_parts, and_from, not-true, not-false, not_from_true, lt-ltb, ltb-true, leb-true, eqb-true, le-leb, cond-false}
+use Rattle.std.proofs.Common.{◌≡◌, ℕ, zero, suc, ◌<◌, ◌≤◌, Bool, true, false, not, ◌&&◌, ltb, leb, List, [], ◌∷◌, length, Some, None, Option, sym, refl, ap, ◌∙◌, subst, inr, ⊎_elim, arith}
+use Rattle.std.proofs.lemmas.Bool.Decides.{nat_tests}
+use Rattle.std.proofs.lemmas.Bool.{and_parts, and_from, not-false, not_from_true, lt-ltb, ltb-true, cond-false}
 use Rattle.protocol.specs.Bags.{count, Same}
 use Rattle.protocol.specs.Messages.{message}
 use Rattle.protocol.specs.Sending.{to_all}
@@ -8,27 +9,32 @@ use Rattle.protocol.specs.declared.messages.Message.{Message}
 use Rattle.protocol.specs.declared.messages.Step.{Step}
 use Rattle.protocol.specs.declared.messages.Subject.{Subject}
 use Rattle.protocol.specs.declared.messages.Subject.TheVariants.{Item}
-use Rattle.protocol.specs.declared.refusals.Refusal.{Refusal}
 use Rattle.agreement.proofs.Bodies.{none_some}
 use Rattle.protocol.proofs.Bags.{count_none, count_cons, count_append}
 use Rattle.protocol.proofs.Parts.{sender_of, subject_of}
 use Rattle.plan.specs.Plans.{needs_of}
-use Rattle.plan.specs.declared.drafts.Line.{Line}
+use Rattle.plan.specs.Kinds.{Line}
+use Rattle.plan.specs.declared.plans.Plan.{Plan}
 use Rattle.memory.specs.Contents.{Held, cleared, silent, unopened, stage_at, case_at, serial_at}
 use Rattle.memory.specs.Places.{enough, within, place, case_place}
 use Rattle.memory.specs.declared.records.CaseRecord.{CaseRecord}
 use Rattle.memory.proofs.Grid.{laid}
-use Rattle.memory.proofs.Sizes.{sizes}
 use Rattle.memory.proofs.Wiping.{wiped_length, wiped_at}
 use Rattle.agreement.specs.Records.{Rec}
 use Rattle.agreement.specs.Runs.{State, start}
 use Rattle.cases.specs.Steps.{round_at}
-use Rattle.rules.specs.Turns.{faulty, unless, refusal, Announce, Open, Forge, Deliver, Advance}
+use Rattle.rules.specs.Turns.{faulty, refusal, Announce, Open, Forge, Deliver, Advance}
 use Rattle.rules.specs.Runs.{Event, Coin, Announcing, Accepting, Announced, Accepted}
 use Rattle.rules.proofs.Stages as stages
 use Rattle.rules.proofs.Stages.{Shown}
 use Rattle.rules.proofs.Records.{Rows}
 use Rattle.rules.proofs.Cases.{CaseShown, CasesShown}
+
+-- memory whose parts are as long is as large
+pub as_large : (plan : Plan) (h next : Held) → length next.broadcasts ≡ length h.broadcasts → length next.bodies ≡ length h.bodies → length next.cases ≡ length h.cases → length next.serials ≡ length h.serials → enough plan h ≡ true → enough plan next ≡ true
+as_large plan h next b o c s large =
+    let needs = needs_of plan in
+    (λ j. leb needs.broadcast_records (b j) && (leb needs.body_places (o j) && (leb needs.case_records (c j) && leb needs.next_serials (s j)))) ∙ large
 
 -- memory has the machine's record
 pub record Keeps (line : Line) (h : Held) (i : ℕ) (s : Subject) (r : Rec) : Type 0 where
@@ -80,11 +86,6 @@ bodies_on line e es st now nothing same told = record {
   inside = λ i s b t. ⊎_elim (λ x. absurd (nothing i s b x)) (told.inside i s b) t;
 }
 
--- a test that did not refuse
-passed : (test : Bool) (e : Refusal) (rest : Option Refusal) → unless test e rest ≡ None → (test ≡ true) × (rest ≡ None)
-passed true e rest h = (refl, h)
-passed false e rest h = let z : ◌≡◌ {A = ℕ} 0 1 = cc in absurd (omega arith)
-
 -- what is known where a turn is not refused
 pub record AnnounceAllowed (line : Line) (h : Held) (i : ℕ) : Type 0 where
   pub process : i < line.plan.n
@@ -92,12 +93,7 @@ pub record AnnounceAllowed (line : Line) (h : Held) (i : ℕ) : Type 0 where
   pub unused : serial_at h i < line.plan.serials
 
 pub announce_allowed : (line : Line) (capacity : ℕ) (h : Held) (ws : List Message) (i b : ℕ) → refusal line capacity h ws (Announce i b) ≡ None → AnnounceAllowed line h i
-announce_allowed line capacity h ws i b e =
-    let p₁ = passed (enough line.plan h) _ _ e in
-    let p₂ = passed (ltb i line.plan.n) _ _ p₁.1 in
-    let p₃ = passed (not (faulty line i)) _ _ p₂.1 in
-    let p₄ = passed (ltb (serial_at h i) line.plan.serials) _ _ p₃.1 in
-    record { process = ltb-true _ _ p₂.0; correct = not-true _ p₃.0; unused = ltb-true _ _ p₄.0 }
+announce_allowed line capacity h ws i b e = record { process = grind (arith, nat_tests); correct = grind (arith, nat_tests); unused = grind (arith, nat_tests) }
 
 pub record ForgeAllowed (line : Line) (m : Message) : Type 0 where
   pub sender : m.sender < line.plan.n
@@ -105,17 +101,10 @@ pub record ForgeAllowed (line : Line) (m : Message) : Type 0 where
   pub inside : within line.plan m.subject ≡ true
 
 pub forge_allowed : (line : Line) (capacity : ℕ) (h : Held) (ws : List Message) (m : Message) → refusal line capacity h ws (Forge m) ≡ None → ForgeAllowed line m
-forge_allowed line capacity h ws m e =
-    let p₁ = passed (enough line.plan h) _ _ e in
-    let p₂ = passed (ltb m.sender line.plan.n && ltb m.addressee line.plan.n) _ _ p₁.1 in
-    let p₃ = passed (faulty line m.sender) _ _ p₂.1 in
-    let p₄ = passed (within line.plan m.subject) _ _ p₃.1 in
-    record { sender = ltb-true _ _ (and_parts _ _ p₂.0).0; faulty = p₃.0; inside = p₄.0 }
+forge_allowed line capacity h ws m e = record { sender = grind (arith, nat_tests); faulty = grind (arith, nat_tests); inside = grind (arith, nat_tests) }
 
 pub deliver_allowed : (line : Line) (capacity : ℕ) (h : Held) (ws : List Message) (i pick : ℕ) → refusal line capacity h ws (Deliver i pick) ≡ None → i < line.plan.n
-deliver_allowed line capacity h ws i pick e =
-    let p₁ = passed (enough line.plan h) _ _ e in
-    ltb-true _ _ (passed (ltb i line.plan.n) _ _ p₁.1).0
+deliver_allowed line capacity h ws i pick e = grind (arith, nat_tests)
 
 pub record OpenAllowed (line : Line) (h : Held) (i c v : ℕ) : Type 0 where
   pub process : i < line.plan.n
@@ -126,19 +115,7 @@ pub record OpenAllowed (line : Line) (h : Held) (i c v : ℕ) : Type 0 where
 
 pub open_allowed : (line : Line) (capacity : ℕ) (h : Held) (ws : List Message) (i c v : ℕ) → refusal line capacity h ws (Open i c v) ≡ None → OpenAllowed line h i c v
 open_allowed line capacity h ws i c v e =
-    let p₁ = passed (enough line.plan h) _ _ e in
-    let p₂ = passed (ltb i line.plan.n) _ _ p₁.1 in
-    let p₃ = passed (not (faulty line i)) _ _ p₂.1 in
-    let p₄ = passed (ltb c line.plan.cases) _ _ p₃.1 in
-    let p₅ = passed (leb v 1) _ _ p₄.1 in
-    let p₆ = passed (eqb (round_at line.plan h i c) 0) _ _ p₅.1 in
-    record {
-      process = ltb-true _ _ p₂.0;
-      correct = not-true _ p₃.0;
-      case = ltb-true _ _ p₄.0;
-      vote = leb-true v 1 p₅.0;
-      unopened = eqb-true _ 0 p₆.0;
-    }
+    record { process = grind (arith, nat_tests); correct = grind (arith, nat_tests); case = grind (arith, nat_tests); vote = grind (arith, nat_tests); unopened = grind (arith, nat_tests) }
 
 pub record AdvanceAllowed (line : Line) (h : Held) (i c : ℕ) : Type 0 where
   pub process : i < line.plan.n
@@ -146,12 +123,7 @@ pub record AdvanceAllowed (line : Line) (h : Held) (i c : ℕ) : Type 0 where
   pub case : c < line.plan.cases
 
 pub advance_allowed : (line : Line) (capacity : ℕ) (h : Held) (ws : List Message) (i c : ℕ) → refusal line capacity h ws (Advance i c) ≡ None → AdvanceAllowed line h i c
-advance_allowed line capacity h ws i c e =
-    let p₁ = passed (enough line.plan h) _ _ e in
-    let p₂ = passed (ltb i line.plan.n) _ _ p₁.1 in
-    let p₃ = passed (not (faulty line i)) _ _ p₂.1 in
-    let p₄ = passed (ltb c line.plan.cases) _ _ p₃.1 in
-    record { process = ltb-true _ _ p₂.0; correct = not-true _ p₃.0; case = ltb-true _ _ p₄.0 }
+advance_allowed line capacity h ws i c e = record { process = grind (arith, nat_tests); correct = grind (arith, nat_tests); case = grind (arith, nat_tests) }
 
 module _ (line : Line) where
   -- what a process of the line sends of a subject of the plan
@@ -178,12 +150,7 @@ module _ (line : Line) where
 
     cleared_large : enough line.plan opened ≡ true
     cleared_large =
-        let needs = needs_of line.plan in
-        let size = sizes line.plan h large in
-        and_from _ _ (le-leb needs.broadcast_records (length opened.broadcasts) (omega (arith, size.broadcasts, wiped_length silent needs.broadcast_records h.broadcasts)))
-        (and_from _ _ (le-leb needs.body_places (length opened.bodies) (omega (arith, size.bodies, wiped_length {X = Option ℕ} None needs.body_places h.bodies)))
-        (and_from _ _ (le-leb needs.case_records (length opened.cases) (omega (arith, size.cases, wiped_length unopened needs.case_records h.cases)))
-        (le-leb needs.next_serials (length opened.serials) (omega (arith, size.serials, wiped_length {X = ℕ} 0 needs.next_serials h.serials)))))
+        as_large line.plan h opened (wiped_length silent _ h.broadcasts) (wiped_length {X = Option ℕ} None _ h.bodies) (wiped_length unopened _ h.cases) (wiped_length {X = ℕ} 0 _ h.serials) large
 
     none_opened : (i c : ℕ) → i < line.plan.n → c < line.plan.cases → case_at opened (case_place line.plan i c) ≡ unopened
     none_opened i c lt below = wiped_at unopened _ (case_place line.plan i c) h.cases ((laid line.plan).case_inside i c lt below)
@@ -199,7 +166,7 @@ module _ (line : Line) where
           gone = λ r le early. absurd (omega (arith, round));
           decision = ap (λ (r : CaseRecord). r.decision) (none_opened i c lt below);
           votes = λ v t. absurd t;
-          voted = λ v e. let z : ◌≡◌ {A = ℕ} 0 1 = cc in absurd (omega arith);
+          voted = λ v e. absurd cc;
         }
 
     pub at_start : (coin : Coin) → Shows line coin [] opened [] start

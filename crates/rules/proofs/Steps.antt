@@ -1,7 +1,7 @@
 -- Each event of a run is a turn of the machine of broadcasts, or changes nothing.
 use Rattle.std.proofs.Common.{ℕ, List, ◌∷◌}
 use Rattle.protocol.specs.declared.messages.Message.{Message}
-use Rattle.plan.specs.declared.drafts.Line.{Line}
+use Rattle.plan.specs.Kinds.{Line}
 use Rattle.memory.specs.Contents.{Held}
 use Rattle.agreement.specs.Runs.{State}
 use Rattle.rules.specs.Runs.{Event, refused, announced, opened, forged, delivered, advanced, Coin, Happens}

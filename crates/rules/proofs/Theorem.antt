@@ -1,6 +1,6 @@
 -- After every run the promises hold.
 use Rattle.std.proofs.Common.{◌≡◌, ℕ, zero, suc, ◌+◌, ◌-◌, ◌*◌, ◌/◌, ◌<◌, ◌≤◌, true, List, Some, None, Option, sym, refl, ap, ◌∙◌, subst, ⊎_elim, arith}
-use Rattle.std.proofs.lemmas.Bool.{and_from, lt-ltb, le-leb, cond-false, cases_lt}
+use Rattle.std.proofs.lemmas.Bool.{and_from, cond-false, cases_lt}
 use Rattle.protocol.specs.Numbers.{ballot_number, side_number, vote}
 use Rattle.agreement.specs.Worlds.{Sound}
 use Rattle.protocol.specs.declared.messages.Message.{Message}
@@ -8,7 +8,7 @@ use Rattle.protocol.specs.declared.messages.Subject.TheVariants.{Item, Ballot}
 use Rattle.protocol.specs.declared.votes.Side.{Side}
 use Rattle.agreement.proofs.Bodies.{none_some, some_once}
 use Rattle.plan.specs.Sheet.{thresholds_of}
-use Rattle.plan.specs.declared.drafts.Line.{Line}
+use Rattle.plan.specs.Kinds.{Line}
 use Rattle.plan.proofs.Marked.{few_marked}
 use Rattle.carrier.specs.Waiting.{addressed}
 use Rattle.memory.specs.Contents.{Held}
@@ -19,11 +19,14 @@ use Rattle.agreement.specs.Runs.{State, start}
 use Rattle.agreement.specs.Broadcasts as broadcasts
 use Rattle.agreement.proofs.Counts.{counted_lawful}
 use Rattle.agreement.proofs.Theorem as theorem
-use Rattle.consensus.specs.Rounds.{Accepted, Third, kind}
+use Rattle.protocol.specs.declared.votes.Kind.TheVariants.{Third}
+use Rattle.protocol.specs.Phases.{kind}
+use Rattle.consensus.specs.Rounds.{Accepted}
 use Rattle.consensus.specs.Validity.{Quorum, Part, Resilient}
 use Rattle.consensus.specs.Accounts.{Account, Outcomes}
 use Rattle.consensus.proofs.Accounts.{outcomes}
 use Rattle.ballots.specs.Places.{ballots_at}
+use Rattle.ballots.proofs.Reading.{ballot_within}
 use Rattle.cases.specs.Steps.{round_at, may_advance, step_at}
 use Rattle.cases.proofs.Going.{law}
 use Rattle.rules.specs.Turns.{faulty}
@@ -155,13 +158,12 @@ module _ (line : Line) where
 
         delivered : (i k r b : ℕ) → Correct line i → Correct line k → r < last → said k r ≡ Some b → own i k r ≡ Some b
         delivered i k r b ci ck lt e =
-            let inside = and_from _ _ (lt-ltb k n ck.0) (and_from _ _ (lt-ltb c line.plan.cases below) (and_from _ _ (le-leb 1 (suc r) (omega arith)) (le-leb (suc r) last (omega arith)))) in
-            accepted_ballot line h st.recs shows.mirrors.records i c k r b ci.0 inside (all.delivery (rests rest.quiet) (Ballot k c (suc r)) i b ck ci e)
+            accepted_ballot line h st.recs shows.mirrors.records i c k r b ci.0 (ballot_within line.plan k c (suc r) ck.0 below (omega arith) (omega arith)) (all.delivery (rests rest.quiet) (Ballot k c (suc r)) i b ck ci e)
 
         stuck : (i r : ℕ) (S : _) → Correct line i → rounds i ≡ suc r → r < last → Quorum n line.plan.t (own i) r S → ⊥
         stuck i r S ci e lt full =
             let none : step_at line.plan h i c ≡ None = cond-false (may_advance line.plan h i c) _ None (rest.stuck i c ci below) in
-            let covers = and_from _ _ (lt-ltb i n ci.0) (and_from _ _ (lt-ltb c line.plan.cases below) (and_from _ _ (le-leb 1 (rounds i) (omega arith)) (and_from _ _ (le-leb (rounds i) last (omega arith)) shows.mirrors.large))) in
+            let covers = and_from _ _ (ballot_within line.plan i c (rounds i) ci.0 below (omega arith) (omega arith)) shows.mirrors.large in
             (law line.plan h i c None (sym none)).none refl covers S (subst (λ k. Quorum n line.plan.t (own i) k S) (omega arith) full)
 
         began : (i : ℕ) → Correct line i → 0 < rounds i

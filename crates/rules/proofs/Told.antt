@@ -1,5 +1,5 @@
 -- The first decision, as events tell it.
-use Rattle.std.proofs.Common.{◌≡◌, ℕ, ◌/◌, Bool, true, false, cond, ◌&&◌, eqb, List, [], ◌∷◌, Some, None, Option, sym, refl, ap, ◌∙◌, inl, inr, ⊎_elim, arith}
+use Rattle.std.proofs.Common.{◌≡◌, ℕ, ◌/◌, Bool, true, false, cond, ◌&&◌, eqb, List, [], ◌∷◌, Some, None, Option, sym, refl, ap, ◌∙◌, inl, inr, ⊎_elim}
 use Rattle.std.proofs.lemmas.Bool.{and_parts, and_from, eqb-true, eq-eqb, cond-true}
 use Rattle.protocol.specs.declared.votes.Side.{Side}
 use Rattle.memory.specs.declared.records.Decision.{Decision}
@@ -7,7 +7,7 @@ use Rattle.rules.specs.Turns.{settled}
 use Rattle.rules.specs.Runs.{Event, refused, announced, opened, forged, delivered, advanced, Told, Advancing, decision_of}
 
 no_decision : (d : Decision) → ◌≡◌ {A = Option Decision} None (Some d) → ⊥
-no_decision d e = let z : ◌≡◌ {A = ℕ} 0 1 = cc in omega arith
+no_decision d e = cc
 
 -- process i decided v in some round of case c
 abbrev pub Tells : List Event → ℕ → ℕ → Side → Type 0

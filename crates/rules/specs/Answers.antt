@@ -3,7 +3,7 @@ use Rattle.std.specs.Prelude.{ℕ, ◌/◌, List, [], ◌∷◌, Ok, Err, Option
 use Rattle.protocol.specs.declared.messages.Message.{Message}
 use Rattle.protocol.specs.declared.refusals.Refusal.{Refusal}
 use Rattle.protocol.specs.declared.votes.Side.{Side}
-use Rattle.plan.specs.declared.drafts.Line.{Line}
+use Rattle.plan.specs.Kinds.{Line}
 use Rattle.carrier.specs.Posting.{Posts, Exchanges}
 use Rattle.memory.specs.Contents.{Held}
 use Rattle.rules.specs.Turns.{Announce, Open, Forge, Deliver, Advance, refusal, said, ballots, reacted, replies, Refused, Done}

@@ -4,7 +4,7 @@ use Rattle.protocol.specs.declared.messages.Message.{Message}
 use Rattle.protocol.specs.declared.messages.Subject.{Subject}
 use Rattle.protocol.specs.declared.messages.Subject.TheVariants.{Item}
 use Rattle.protocol.specs.declared.votes.Side.{Side}
-use Rattle.plan.specs.declared.drafts.Line.{Line}
+use Rattle.plan.specs.Kinds.{Line}
 use Rattle.carrier.specs.Waiting.{waiting_for}
 use Rattle.memory.specs.Contents.{Held, stage_at, case_at, accepted_body}
 use Rattle.memory.specs.Places.{within, place, case_place}

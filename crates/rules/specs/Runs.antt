@@ -9,7 +9,7 @@ use Rattle.protocol.specs.declared.messages.Subject.{Subject}
 use Rattle.protocol.specs.declared.messages.Subject.TheVariants as subject
 use Rattle.protocol.specs.declared.votes.Side.{Side}
 use Rattle.protocol.specs.declared.refusals.Refusal.{Refusal}
-use Rattle.plan.specs.declared.drafts.Line.{Line}
+use Rattle.plan.specs.Kinds.{Line}
 use Rattle.memory.specs.Contents.{Held, cleared, case_at, serial_at, with_serial}
 use Rattle.memory.specs.Places.{enough, case_place}
 use Rattle.memory.specs.declared.records.Decision.{Decision}

@@ -12,7 +12,7 @@ use Rattle.protocol.specs.declared.votes.Side.{Side}
 use Rattle.protocol.specs.declared.refusals.Refusal.{Refusal}
 use Rattle.protocol.specs.declared.refusals.Refusal.TheVariants.{MemoryTooSmall, ProcessOutOfRange, WrongRole, SubjectOutOfPlan, NothingWaiting, ValueOutOfRange, SerialsUsedUp, CaseAlreadyOpened, MayNotAdvance, NoRoom}
 use Rattle.plan.specs.Marks.{marked}
-use Rattle.plan.specs.declared.drafts.Line.{Line}
+use Rattle.plan.specs.Kinds.{Line}
 use Rattle.carrier.specs.Waiting.{waiting_for}
 use Rattle.memory.specs.Contents.{Held, case_at, with_case, serial_at}
 use Rattle.memory.specs.Places.{enough, within, case_place}

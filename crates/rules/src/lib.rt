@@ -5,7 +5,7 @@
 pub mod answers;
 
 ghost use Rattle.std.specs.Prelude.{ℕ};
-ghost use Rattle.plan.specs.declared.drafts.Line.{Line};
+ghost use Rattle.plan.specs.Kinds.{Line};
 ghost use Rattle.rules.specs.Promises.{Kept};
 ghost use Rattle.rules.specs.Runs.{Coin};
 

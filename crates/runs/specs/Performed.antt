@@ -5,7 +5,7 @@ use Rattle.protocol.specs.declared.messages.Message.{Message}
 use Rattle.protocol.specs.declared.messages.Step.TheVariants.{Initial}
 use Rattle.protocol.specs.declared.messages.Subject.TheVariants.{Ballot}
 use Rattle.protocol.specs.declared.refusals.Refusal.{Refusal}
-use Rattle.plan.specs.declared.drafts.Line.{Line}
+use Rattle.plan.specs.Kinds.{Line}
 use Rattle.carrier.specs.Posting.{Posts, Exchanges}
 use Rattle.memory.specs.Contents.{Held}
 use Rattle.cases.specs.Steps.{step_at}

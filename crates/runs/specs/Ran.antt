@@ -3,8 +3,7 @@ use Rattle.std.specs.Prelude.{◌≡◌, ℕ, ◌+◌, ◌≤◌, List, map, rev
 use Rattle.protocol.specs.declared.messages.Message.{Message}
 use Rattle.protocol.specs.declared.refusals.Refusal.{Refusal}
 use Rattle.protocol.specs.declared.votes.Side.{Side}
-use Rattle.plan.specs.declared.drafts.Draft.{Draft}
-use Rattle.plan.specs.declared.drafts.Line.{Line}
+use Rattle.plan.specs.Kinds.{Draft, Line}
 use Rattle.memory.specs.Contents.{Held}
 use Rattle.line.specs.Opening.{NotOpened}
 use Rattle.rules.specs.Runs.{Event, Coin, Run, turn_of, Ended, Forced, Decided}

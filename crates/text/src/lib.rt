@@ -1,9 +1,10 @@
 //! A text under construction. Each call takes the text and gives it back longer; where memory
 //! runs out the text is let go, so that none is ever half written.
+//! It is put together from byte strings, as a script's words are read, and not by `Display`.
 #![tactic(auto)]
 
-ghost use Rattle.std.specs.Prelude.{◌≡◌, [], ◌++◌, IfOk, decimal};
-ghost use Rattle.text.specs.Shown.{shown};
+ghost use Rattle.std.specs.Prelude.{◌≡◌, [], ◌++◌, decimal};
+ghost use Rattle.text.specs.Shown.{shown, Adds};
 
 use std::alloc::{AllocError, Global};
 
@@ -31,7 +32,7 @@ impl Text {
 
     /// Adds bytes.
     pub fn put(mut self, more: &[u8]) -> Result<Text, AllocError>
-        ensures { IfOk result (λ t. shown t ≡ shown self ++ more.now) }
+        ensures { Adds result self more.now }
     {
         self.bytes.extend_from_slice(more)?;
         Ok(self)
@@ -39,7 +40,7 @@ impl Text {
 
     /// Adds a number in decimal.
     pub fn put_number(self, n: u64) -> Result<Text, AllocError>
-        ensures { IfOk result (λ t. shown t ≡ shown self ++ decimal n) }
+        ensures { Adds result self (decimal n) }
     {
         let digits = format!(in *self.bytes.allocator(); "{n}")?;
         self.put(digits.as_bytes())
@@ -47,7 +48,7 @@ impl Text {
 
     /// Adds words and a number behind them.
     pub fn put_field(self, words: &[u8], n: u64) -> Result<Text, AllocError>
-        ensures { IfOk result (λ t. shown t ≡ shown self ++ (words.now ++ decimal n)) }
+        ensures { Adds result self (words.now ++ decimal n) }
     {
         self.put(words)?.put_number(n)
     }

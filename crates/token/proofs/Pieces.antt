@@ -1,22 +1,10 @@
--- How a text is cut into tokens, and what digits write.
-use Rattle.std.proofs.Common.{◌≡◌, ℕ, suc, ◌+◌, ◌-◌, ◌*◌, ◌^◌, ◌<◌, ◌≤◌, Bool, true, false, cond, List, [], ◌∷◌, length, get_or, take, drop, None, sym, refl, ap, ◌∙◌, arith}
-use Rattle.std.proofs.lemmas.List.{at_drop_more, take_rest}
+-- How a text is cut into tokens.
+use Rattle.std.proofs.Common.{◌≡◌, ℕ, suc, ◌+◌, ◌-◌, ◌≤◌, Bool, true, false, cond, List, [], ◌∷◌, length, get_or, take, drop, sym, refl, ap, ◌∙◌, arith}
+use Rattle.std.proofs.lemmas.List.{take_rest}
 use Rattle.std.proofs.lemmas.Bool.Decides.{nat_tests}
 use Rattle.std.proofs.lemmas.List.Sums.{take_while-cons}
 use Rattle.std.specs.List.{take_while}
-use Rattle.token.specs.Tokens.{joins, front, behind, lead, pieces, running, spanning, worth_after, below64}
-
-worth_grows : (n : ℕ) (ds : List ℕ) → n ≤ worth_after n ds
-worth_grows n [] = omega arith
-worth_grows n (c ∷ cs) = omega (arith, worth_grows (n * 10 + (c - 48)) cs)
-
--- digits so far that pass 64 bits: so does the whole number
-too_large : (n c : ℕ) (cs : List ℕ) (w : ℕ) → worth_after n (c ∷ cs) ≡ w → 2 ^ 64 ≤ n * 10 + (c - 48) → below64 w ≡ None
-too_large n c cs w e h = let g = worth_grows (n * 10 + (c - 48)) cs in grind (arith, nat_tests)
-
--- the same in the loop, at its digit i
-pub worth_stops : (n w i : ℕ) (ds : List ℕ) → worth_after n (drop i ds) ≡ w → i < length ds → 2 ^ 64 ≤ n * 10 + (get_or ds i 0 - 48) → below64 w ≡ None
-worth_stops n w i ds e h big = too_large n (get_or ds i 0) (drop (i + 1) ds) w (sym (at_drop_more (worth_after n) ds i 0 h) ∙ e) big
+use Rattle.token.specs.Tokens.{joins, front, behind, lead, pieces, running, spanning}
 
 -- how many bytes join, as the library counts them
 running_is : (b : ℕ) (xs : List ℕ) → running b xs ≡ length (take_while (joins b) xs)
@@ -32,11 +20,8 @@ joins_on a b c h = grind (arith, nat_tests)
 
 pub lead_pieces : (s : List ℕ) → lead (pieces s) ≡ get_or s 0 0
 lead_pieces [] = refl
-lead_pieces (b ∷ bs) = go (joins b (lead (pieces bs))) refl
-  where
-    go : (t : Bool) → joins b (lead (pieces bs)) ≡ t → lead (pieces (b ∷ bs)) ≡ b
-    go true e = ap (λ t. lead (cond t ((b ∷ front (pieces bs)) ∷ behind (pieces bs)) ((b ∷ []) ∷ pieces bs))) e
-    go false e = ap (λ t. lead (cond t ((b ∷ front (pieces bs)) ∷ behind (pieces bs)) ((b ∷ []) ∷ pieces bs))) e
+lead_pieces (b ∷ bs) =
+    elim (joins b (lead (pieces bs))) as (λ t. lead (cond t ((b ∷ front (pieces bs)) ∷ behind (pieces bs)) ((b ∷ []) ∷ pieces bs)) ≡ b) [ true ↦ refl | false ↦ refl ]
 
 -- a byte goes on the token behind it, or stands apart from it
 pub pieces_on : (b c : ℕ) (cs p : List ℕ) (ps : List (List ℕ)) → joins b c ≡ true → pieces (c ∷ cs) ≡ p ∷ ps → pieces (b ∷ c ∷ cs) ≡ (b ∷ p) ∷ ps

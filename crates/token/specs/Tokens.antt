@@ -1,5 +1,6 @@
 -- How a line of a script is cut into tokens, and which tokens are lawful.
 use Rattle.std.specs.Prelude.{◌≡◌, ℕ, suc, ◌+◌, ◌-◌, ◌*◌, ◌^◌, ◌≤◌, Bool, true, false, cond, not, ◌&&◌, ◌||◌, List, [], ◌∷◌, length, drop, Some, None, Option, ◌==◌, nat_lt, slice_index}
+use Rattle.std.specs.List.{fold}
 use Rattle.std.specs.Char.{is_ascii_lowercase, is_ascii_digit}
 use Rattle.token.specs.declared.lex.Token.{Token}
 use Rattle.token.specs.declared.lex.Token.TheVariants.{Open, Close, Space, Word, Number}
@@ -39,13 +40,12 @@ abbrev pub spanning : List ℕ → ℕ
 spanning [] = 0
 spanning (b ∷ bs) = suc (running b bs)
 
--- the number that digits write, after those of n
-abbrev pub worth_after : ℕ → List ℕ → ℕ
-worth_after n [] = n
-worth_after n (c ∷ cs) = worth_after (n * 10 + (c - 48)) cs
+-- the number that digits write, digit by digit
+abbrev pub pushed : ℕ → ℕ → ℕ
+pushed n d = n * 10 + (d - 48)
 
 abbrev pub worth : List ℕ → ℕ
-worth ds = worth_after 0 ds
+worth ds = fold pushed 0 ds
 
 abbrev pub below64 : ℕ → Option ℕ
 below64 n = cond (nat_lt n (2 ^ 64)) (Some n) None

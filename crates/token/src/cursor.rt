@@ -1,11 +1,55 @@
-ghost use Rattle.std.specs.Prelude.{◌+◌, ◌^◌, ◌<◌, length};
+ghost use Rattle.std.specs.Prelude.{◌≡◌, ◌+◌, ◌^◌, ◌<◌, length};
+ghost use Rattle.token.specs.Tokens.{pieces};
 
-use crate::fault::Place;
+use crate::fault::{Place, TokenFault};
+use crate::lex::{Token, first_token};
 
 /// What is left of a script's line, and its place.
 #[derive(Drop)]
 pub struct Cursor<'a> {
-    pub(crate) rest: &'a [u8],
-    pub(crate) place: Place,
+    rest: &'a [u8],
+    place: Place,
     ghost fits: { place.byte + length rest.now < 2 ^ 64 },
+}
+
+impl<'a> Cursor<'a> {
+    ghost use Rattle.token.specs.Scan.{left, here, onward, scanned, spelled, taken, remaining, Apt};
+
+    /// The beginning of a line, which is line `number` of its script.
+    pub fn new(number: u64, line: &'a [u8]) -> Cursor<'a>
+        ensures place { here result ≡ record { line = number; byte = 1 } }
+        ensures tokens { left result ≡ pieces line.now }
+    {
+        Cursor {
+            rest: line,
+            place: Place {
+                line: number,
+                byte: 1,
+            },
+        }
+    }
+
+    /// The place of the next token, or one past the line's end.
+    pub fn place(&self) -> Place
+        ensures { result ≡ here self.now }
+    {
+        self.place
+    }
+
+    /// Takes the next token, if the line has one. A faulty token is not taken.
+    pub fn next_token(&mut self) -> Result<Option<Token<'a>>, TokenFault>
+        ensures value { spelled result ≡ scanned (here self.old) (left self.old) }
+        ensures kind { Apt result }
+        ensures place { here self.new ≡ onward (here self.old) (taken result) }
+        ensures tokens { left self.new ≡ remaining result (left self.old) }
+    {
+        if self.rest.is_empty() {
+            return Ok(None);
+        }
+        let token = first_token(self.rest).ok_or(TokenFault { place: self.place })?;
+        let taken = token.text().len();
+        self.rest = &self.rest[taken..];
+        self.place.byte += taken as u64;
+        Ok(Some(token))
+    }
 }

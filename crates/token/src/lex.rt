@@ -1,9 +1,9 @@
 ghost use Rattle.std.specs.Prelude.{◌≡◌, length};
 ghost use Rattle.std.specs.List.{take_while};
-ghost use Rattle.token.specs.Tokens.{spelling, below64, worth, number_of, joins, spanning, Lexed, First};
+ghost use Rattle.token.specs.Tokens.{spelling, below64, pushed, worth, number_of, joins, spanning, Lexed, First};
 
 /// One token. A word and a number borrow their bytes from the line.
-#[derive(Clone, Copy)]
+#[derive(Clone, Copy, Debug, PartialEq, Eq)]
 pub enum Token<'a> {
     Open,
     Close,
@@ -51,17 +51,19 @@ fn span(rest: &[u8]) -> usize
     }
 }
 
+// A number with one digit more, if that is below 2^64.
+fn push_digit(n: u64, digit: u8) -> Option<u64>
+    ensures { result ≡ below64 (pushed n digit) }
+{
+    n.checked_mul(10)?
+        .checked_add(u64::from(digit.saturating_sub(b'0')))
+}
+
 // The number that digits write, if it is below 2^64.
 fn value(digits: &[u8]) -> Option<u64>
     ensures { result ≡ below64 (worth digits.now) }
 {
-    let mut value: u64 = 0;
-    for d in digits {
-        value = value
-            .checked_mul(10)?
-            .checked_add(u64::from(d.saturating_sub(b'0')))?;
-    }
-    Some(value)
+    digits.iter().try_fold(0, |n, digit| push_digit(n, *digit))
 }
 
 // The same, and none where the digits have a leading zero.

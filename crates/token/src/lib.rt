@@ -5,7 +5,6 @@
 mod cursor;
 mod fault;
 mod lex;
-mod scan;
 
 pub use cursor::Cursor;
 pub use fault::{Place, TokenFault};

@@ -8,7 +8,8 @@ use Rattle.protocol.specs.declared.votes.Side.TheVariants as side
 use Rattle.plan.specs.Sheet.{thresholds_of}
 use Rattle.item.specs.Records.{recorded, body_of}
 use Rattle.item.specs.declared.records.Record.{Record}
-use Rattle.consensus.specs.Rounds.{Kind, First, Second, Third}
+use Rattle.protocol.specs.declared.votes.Kind.{Kind}
+use Rattle.protocol.specs.declared.votes.Kind.TheVariants.{First, Second, Third}
 use Rattle.cases.specs.Steps.{step_by}
 
 pub data Row : Type 0 where

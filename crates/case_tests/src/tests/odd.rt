@@ -1,10 +1,10 @@
-use crate::tests::playing::{Hall, accepted, any_message, decision};
+use crate::tests::playing::{Hall, accepted};
 use carriers::Queue;
 use coin::WordCoin;
 use item::Tag;
 use memory::{CaseRecord, Decision, Memory, Slip};
 use plan::{Draft, Line, Plan};
-use protocol::{Refusal, Side};
+use protocol::{Message, Refusal, Side};
 use std::test::Fail;
 
 type Answers = (
@@ -20,7 +20,7 @@ fn alone() -> Result<Line, Refusal> {
 // A process alone, which has accepted release, release and its proposal, advances to a round, opens the case and
 // announces an item, as far as it may.
 fn answers(round: u8, serial: u8) -> Result<Answers, Refusal> {
-    let mut places = [any_message()?; 3];
+    let mut places = [Message::BLANK; 3];
     let mut hall = Hall {
         line: alone()?,
         memory: Memory {
@@ -65,7 +65,7 @@ fn stored_numbers_are_taken_as_they_are(rt: HostRuntime) -> Result<(), Fail> {
 // decision changes it.
 #[test]
 fn the_stored_decision_stands(rt: HostRuntime) -> Result<(), Fail> {
-    let mut places = [any_message()?; 3];
+    let mut places = [Message::BLANK; 3];
     let early = Decision {
         side: Side::Keep,
         phase: 9,
@@ -88,10 +88,10 @@ fn the_stored_decision_stands(rt: HostRuntime) -> Result<(), Fail> {
     assert_eq!(rt; hall.open_case(0, 1)?, 1);
     for round in 1..4 {
         assert_eq!(rt; hall.memory.case_record(0).round, round);
-        assert_eq!(rt; decision(&hall.memory, 0), Some((Side::Keep, 9)));
+        assert_eq!(rt; hall.memory.case_record(0).decision, Some(early));
         let _ = hall.advance(0)?;
     }
-    assert_eq!(rt; decision(&hall.memory, 0), Some((Side::Keep, 9)));
+    assert_eq!(rt; hall.memory.case_record(0).decision, Some(early));
     assert_eq!(rt; hall.memory.case_record(0).slip, Slip::Out);
     Ok(())
 }

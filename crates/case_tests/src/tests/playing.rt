@@ -3,7 +3,7 @@ use carrier::Carrier;
 use coin::Coin;
 use item::Item;
 use line::{advance, announce, deliver, forge, open_case, open_line};
-use memory::{BroadcastRecord, CaseRecord, Memory, Stage};
+use memory::{BroadcastRecord, CaseRecord, Decision, Memory, Stage};
 use plan::{Draft, Line, Plan};
 use protocol::{Message, Refusal, Side, Step, Subject};
 use rules::{Advanced, Announced, Delivered};
@@ -28,19 +28,6 @@ pub fn accepted(body: u64) -> BroadcastRecord {
     BroadcastRecord {
         stage: Stage::Accepted(body),
     }
-}
-
-pub fn any_message() -> Result<Message, Refusal> {
-    let subject = Subject::Item {
-        originator: 0,
-        serial: 0,
-    };
-    Message::new(0, 0, Step::Initial, subject, 0)
-}
-
-pub fn decision(memory: &Memory, place: usize) -> Option<(Side, u8)> {
-    let decision = memory.case_record(place).decision;
-    decision.map(|decision| (decision.side, decision.phase))
 }
 
 // What the turns are handed, with the coin for the line's only case.
@@ -100,15 +87,14 @@ impl<'m, 'c, 'k, C: Carrier, K: Coin> Hall<'m, 'c, 'k, C, K> {
 
     // Every correct process has ended the case of two phases, and no two decided differently. Where a decision is told,
     // each decided so.
-    pub fn check_end(&self, rt: &impl Abort, told: Option<(Side, u8)>) {
+    pub fn check_end(&self, rt: &impl Abort, told: Option<Decision>) {
         let mut last: Option<Side> = None;
         for process in 0..self.line.plan().n() {
             if !self.line.is_faulty(process) {
-                let place = process as usize;
-                assert_eq!(rt; self.memory.case_record(place).round, 7);
-                let decided = decision(&self.memory, place);
-                assert_eq!(rt; decided, told.or(decided));
-                if let Some((side, _)) = decided {
+                let record = self.memory.case_record(process as usize);
+                assert_eq!(rt; record.round, 7);
+                assert_eq!(rt; record.decision, told.or(record.decision));
+                if let Some(Decision { side, .. }) = record.decision {
                     assert_eq!(rt; side, last.unwrap_or(side));
                     last = Some(side);
                 }
@@ -163,6 +149,6 @@ where
     }
     hall.vote_all(votes)?;
     run(&mut hall)?;
-    hall.check_end(rt, side.map(|side| (side, 1)));
+    hall.check_end(rt, side.map(|side| Decision { side, phase: 1 }));
     Ok(())
 }

@@ -1,10 +1,10 @@
-use crate::tests::playing::{accepted, any_message};
+use crate::tests::playing::accepted;
 use carriers::Queue;
 use coin::WordCoin;
 use line::{advance, open_case};
 use memory::{BroadcastRecord, CaseRecord, Memory};
 use plan::{Draft, Line, Plan};
-use protocol::Refusal;
+use protocol::{Message, Refusal};
 
 const FIRST: CaseRecord = CaseRecord {
     round: 1,
@@ -31,7 +31,7 @@ fn try_to_open(
     case: u64,
     vote: u64,
 ) -> Result<u64, Refusal> {
-    let mut places = [any_message()?; 4];
+    let mut places = [Message::BLANK; 4];
     let mut carrier = Queue::new(&mut places[0..free.min(4)]);
     let mut memory = Memory {
         broadcasts: &mut [BroadcastRecord::SILENT; 48],
@@ -73,7 +73,7 @@ fn try_to_advance(
     process: u64,
     case: u64,
 ) -> Result<(u64, u64), Refusal> {
-    let mut places = [any_message()?; 4];
+    let mut places = [Message::BLANK; 4];
     let mut carrier = Queue::new(&mut places[0..free.min(4)]);
     let mut records = [accepted(0); 48];
     records[14] = accepted(2);

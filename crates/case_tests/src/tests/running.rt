@@ -1,11 +1,10 @@
-use crate::tests::playing::{any_message, decision};
 use carrier::is_idle;
 use carriers::Queue;
 use coin::WordCoin;
 use item::Tag;
-use memory::{BroadcastRecord, CaseRecord, Memory};
+use memory::{BroadcastRecord, CaseRecord, Decision, Memory};
 use plan::{Draft, Plan};
-use protocol::Side;
+use protocol::{Message, Side};
 use runs::{Answer, Turn, perform, run};
 use std::test::Fail;
 
@@ -53,7 +52,7 @@ fn turns(value: Tag) -> [Turn<Tag>; 17] {
 #[test]
 fn a_run_is_a_list_of_turns(rt: HostRuntime) -> Result<(), Fail> {
     let coin = WordCoin::new(0);
-    let mut places = [any_message()?; 3];
+    let mut places = [Message::BLANK; 3];
     let mut carrier = Queue::new(&mut places);
     let mut memory = Memory {
         broadcasts: &mut [BroadcastRecord::SILENT; 4],
@@ -77,6 +76,10 @@ fn a_run_is_a_list_of_turns(rt: HostRuntime) -> Result<(), Fail> {
         return Err(Fail::new("another answer"));
     };
     assert_eq!(rt; (reached.round, reached.posted), (4, 0));
-    assert_eq!(rt; decision(&memory, 0), Some((Side::Release, 1)));
+    let decided = Decision {
+        side: Side::Release,
+        phase: 1,
+    };
+    assert_eq!(rt; memory.case_record(0).decision, Some(decided));
     Ok(())
 }

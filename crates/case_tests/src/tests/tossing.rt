@@ -1,11 +1,11 @@
-use crate::tests::playing::{Hall, any_message};
+use crate::tests::playing::Hall;
 use carrier::Carrier;
 use carriers::Queue;
 use coin::{Coin, DealerStrip, OwnStrip, WordCoin};
 use line::open_line;
-use memory::{BroadcastRecord, CaseRecord, Memory};
+use memory::{BroadcastRecord, CaseRecord, Decision, Memory};
 use plan::{Draft, Plan};
-use protocol::Side;
+use protocol::{Message, Side};
 use std::process::Abort;
 use std::test::Fail;
 
@@ -51,14 +51,14 @@ fn toss<C: Carrier, K: Coin>(
     };
     hall.vote_unevenly(rt)?;
     hall.settle()?;
-    hall.check_end(rt, Some((side, 2)));
+    hall.check_end(rt, Some(Decision { side, phase: 2 }));
     Ok(())
 }
 
 #[test]
 fn coins_are_tossed_where_nothing_is_forced(rt: HostRuntime) -> Result<(), Fail> {
     let plan = Plan::new(4, 1, 0, 1, 2)?;
-    let mut places = [any_message()?; 300];
+    let mut places = [Message::BLANK; 300];
     let mut queue = Queue::new(&mut places);
     let rows = [([2, 1], Side::Keep), ([255, 0], Side::Release)];
     for (bytes, side) in rows {

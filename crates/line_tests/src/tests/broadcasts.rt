@@ -47,7 +47,7 @@ impl<'h, 'm, 'c, C: Carrier> Hall<'h, 'm, 'c, C> {
     fn tell_one(&mut self, addressee: u64, body: u64) -> Result<(), Refusal> {
         let plan = self.line.plan();
         let subject = item(plan.n() - 1, 0);
-        for sender in plan.n() - plan.t()..plan.n() {
+        for sender in plan.quorum()..plan.n() {
             let _ = self.forge(Message::new(sender, addressee, Step::Echo, subject, body)?)?;
         }
         let _ = self.forge(Message::new(plan.n() - 1, addressee, Step::Initial, subject, body)?)?;
@@ -57,7 +57,7 @@ impl<'h, 'm, 'c, C: Carrier> Hall<'h, 'm, 'c, C> {
     // The correct processes are the first ones, and what they read is of the last one's first item.
     fn all_read(&self, rt: &impl Abort, expected: Option<Option<u64>>) {
         let plan = self.line.plan();
-        for process in 0..plan.n() - plan.t() {
+        for process in 0..plan.quorum() {
             assert_eq!(rt;
                 self.read::<Tag>(process, item(plan.n() - 1, 0)),
                 Ok(expected)
@@ -107,7 +107,12 @@ fn one_process_accepts_its_own_item(rt: HostRuntime) -> Result<(), Fail> {
         cases: &mut [],
         serials: &mut [255; 1],
     };
-    reaches_all_by_each(&rt, Plan::new(1, 0, 1, 0, 1)?, memory, &mut [filler()?; 3])
+    reaches_all_by_each(
+        &rt,
+        Plan::new(1, 0, 1, 0, 1)?,
+        memory,
+        &mut [Message::BLANK; 3],
+    )
 }
 
 #[test]
@@ -118,7 +123,12 @@ fn four_processes_accept_alike(rt: HostRuntime) -> Result<(), Fail> {
         cases: &mut [],
         serials: &mut [255; 4],
     };
-    reaches_all_by_each(&rt, Plan::new(4, 1, 1, 0, 1)?, memory, &mut [filler()?; 44])
+    reaches_all_by_each(
+        &rt,
+        Plan::new(4, 1, 1, 0, 1)?,
+        memory,
+        &mut [Message::BLANK; 44],
+    )
 }
 
 #[test]
@@ -133,7 +143,7 @@ fn sixteen_processes_accept_alike(rt: HostRuntime) -> Result<(), Fail> {
         &rt,
         Plan::new(16, 5, 1, 0, 1)?,
         memory,
-        &mut [filler()?; 560],
+        &mut [Message::BLANK; 560],
     )
 }
 
@@ -165,7 +175,7 @@ fn open_for_liars<C: Carrier>(
     memory: &mut Memory,
     carrier: &C,
 ) -> Result<Line, Refusal> {
-    let draft = draft_with_faulty(plan, plan.n() - plan.t()..plan.n())?;
+    let draft = draft_with_faulty(plan, plan.quorum()..plan.n())?;
     opened(draft, memory, carrier)
 }
 
@@ -212,7 +222,7 @@ fn a_faulty_originator_makes_no_difference(rt: HostRuntime) -> Result<(), Fail> 
         cases: &mut [],
         serials: &mut [255; 4],
     };
-    let places = &mut [filler()?; 64];
+    let places = &mut [Message::BLANK; 64];
     stories_end_alike(&rt, memory, &mut Queue::new(places), 0)?;
     stories_end_alike(&rt, memory, &mut Pile::new(places), 0)?;
     stories_end_alike(&rt, memory, &mut Basket::new(places), 5)?;
@@ -266,7 +276,7 @@ fn faulty_processes_divide_no_one(rt: HostRuntime) -> Result<(), Fail> {
         cases: &mut [],
         serials: &mut [255; 16],
     };
-    let places = &mut [filler()?; 560];
+    let places = &mut [Message::BLANK; 560];
     camps_end_alike(&rt, memory, &mut Queue::new(places), 0)?;
     camps_end_alike(&rt, memory, &mut Pile::new(places), 0)?;
     camps_end_alike(&rt, memory, &mut Basket::new(places), 7)

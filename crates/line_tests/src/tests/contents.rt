@@ -21,7 +21,7 @@ impl<'h, 'm, 'c, 'p> Hall<'h, 'm, 'c, Pile<'p>> {
 // Of a plan with 4 processes, of which 1 may be faulty, 1 serial, and 1 case of 1 phase.
 #[test]
 fn what_lies_outside_the_plan_is_dropped(rt: HostRuntime) -> Result<(), Fail> {
-    let mut places = [filler()?; 9];
+    let mut places = [Message::BLANK; 9];
     let memory = &mut Memory {
         broadcasts: &mut [BroadcastRecord::SILENT; 64],
         bodies: &mut [None; 512],
@@ -84,7 +84,7 @@ const LIFE: [(u64, Step, u64, (u64, bool), usize); 20] = [
 
 #[test]
 fn repeats_and_latecomers_change_nothing(rt: HostRuntime) -> Result<(), Fail> {
-    let mut places = [filler()?; 17];
+    let mut places = [Message::BLANK; 17];
     let line = Line::from(Draft::new(Plan::new(4, 1, 1, 0, 1)?));
     let memory = &mut Memory {
         broadcasts: &mut [BroadcastRecord::SILENT; 16],
@@ -125,7 +125,7 @@ const ODDITIES: [(Stage, Step, u64, (u64, bool), Option<Option<u64>>); 13] = [
 #[test]
 fn a_call_goes_by_what_it_finds(rt: HostRuntime) -> Result<(), Fail> {
     for (stage, step, body, expected, reading) in ODDITIES {
-        let mut places = [filler()?; 9];
+        let mut places = [Message::BLANK; 9];
         let line = Line::from(Draft::new(Plan::new(4, 1, 1, 0, 1)?));
         let memory = &mut Memory {
             broadcasts: &mut [BroadcastRecord { stage }; 16],
@@ -155,7 +155,7 @@ fn opening_clears_what_is_needed_and_no_more(rt: HostRuntime) -> Result<(), Fail
         cases: &mut [ODD_CASE; 2],
         serials: &mut [255; 2],
     };
-    let mut places = [filler()?; 3];
+    let mut places = [Message::BLANK; 3];
     let carrier = &mut Queue::new(&mut places);
     let line = opened(Draft::new(Plan::new(1, 0, 1, 1, 1)?), memory, carrier)?;
     assert_eq!(rt; memory.case_record(0).round, 0);

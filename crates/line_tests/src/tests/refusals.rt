@@ -71,7 +71,7 @@ fn a_place_too_few_is_refused_by_all(rt: HostRuntime) -> Result<(), Fail> {
             cases: &mut [ODD_CASE; 4][0..cases.min(4)],
             serials: &mut [255; 4][0..serials.min(4)],
         };
-        let mut places = [filler()?; 1];
+        let mut places = [Message::BLANK; 1];
         all_refuse(
             &rt,
             &mut memory,
@@ -94,7 +94,7 @@ fn opening_waits_for_an_empty_carrier(rt: HostRuntime) -> Result<(), Fail> {
         serials: &mut [255; 4],
     };
     for addressee in 0..16 {
-        let mut places = [filler()?; 1];
+        let mut places = [Message::BLANK; 1];
         let mut queue = Queue::new(&mut places);
         queue.post(Message::new(0, addressee, Step::Echo, ITEM, 1)?)?;
         let draft = draft_with_faulty(Plan::new(4, 1, 1, 0, 1)?, 3..4)?;
@@ -116,7 +116,7 @@ fn announcing_takes_serials_and_room(rt: HostRuntime) -> Result<(), Fail> {
         cases: &mut [],
         serials: &mut [0, 0, 1, 0],
     };
-    let mut places = [filler()?; 15];
+    let mut places = [Message::BLANK; 15];
     let line = line_of(Plan::new(4, 1, 2, 0, 1)?)?;
     let carrier = &mut Queue::new(&mut places);
     let mut hall = Hall::new(line, memory, carrier);
@@ -145,7 +145,7 @@ fn announcing_takes_serials_and_room(rt: HostRuntime) -> Result<(), Fail> {
 // Room for three forged messages. The plan has 1 serial, and 1 case of 1 phase.
 #[test]
 fn forging_is_for_faulty_senders_within_the_plan(rt: HostRuntime) -> Result<(), Fail> {
-    let mut places = [filler()?; 3];
+    let mut places = [Message::BLANK; 3];
     let line = line_of(Plan::new(4, 1, 1, 1, 1)?)?;
     let memory = &mut Memory {
         broadcasts: &mut [BroadcastRecord::SILENT; 64],
@@ -221,7 +221,7 @@ fn delivering_wants_room_for_two_to_each(rt: HostRuntime) -> Result<(), Fail> {
         serials: &mut [0; 4],
     };
     for (capacity, expected, left) in rows {
-        let mut places = [filler()?; 10];
+        let mut places = [Message::BLANK; 10];
         let part = &mut places[0..capacity.min(10)];
         delivers_in(&rt, &mut memory, &mut Queue::new(part), expected, left)?;
     }
@@ -253,7 +253,7 @@ fn announcing_wants_room_for_one_to_each(rt: HostRuntime) -> Result<(), Fail> {
         serials: &mut [0; 9],
     };
     for (below, expected, free) in rows {
-        let mut places = [filler()?; 1];
+        let mut places = [Message::BLANK; 1];
         let mut tray = Tray::new(Queue::new(&mut places[0..below.min(1)]));
         announces_in(&rt, &mut memory, &mut tray, expected, free)?;
     }

@@ -17,7 +17,7 @@ pub fn is_within(plan: &Plan, subject: Subject) -> bool
             case,
             round,
         } => {
-            let rounds = 1..=3 * plan.phases();
+            let rounds = 1..=plan.rounds();
             originator < plan.n() && case < plan.cases() && rounds.contains(&round)
         }
     }
@@ -38,7 +38,7 @@ fn locate(plan: &Plan, process: u64, subject: Subject) -> Place
     ensures { result ≡ placed plan.now (place plan.now process subject) }
 {
     let n = plan.n();
-    let subjects = plan.serials() + 3 * plan.phases() * plan.cases();
+    let subjects = plan.serials() + plan.rounds() * plan.cases();
     let row = process * n + subject.originator();
     let number = number_of(plan, subject);
     let record = row * subjects + number;
@@ -58,7 +58,7 @@ fn number_of(plan: &Plan, subject: Subject) -> u64
     match subject {
         Subject::Item { serial, .. } => serial,
         Subject::Ballot { case, round, .. } => {
-            plan.serials() + 3 * plan.phases() * case + (round - 1)
+            plan.serials() + plan.rounds() * case + (round - 1)
         }
     }
 }

@@ -1,13 +1,14 @@
 use Rattle.std.proofs.Common.{◌≡◌, ◌-◌, true, ap, ◌∙◌, arith}
 use Rattle.memory.specs.Contents.{held}
-use Rattle.consensus.specs.Rounds.{kind}
+use Rattle.protocol.specs.Phases.{kind}
 use Rattle.ballots.specs.Places.{covers}
-use Rattle.ballots.specs.Votes.{after}
-use Rattle.ballots.proofs.Reading.{first_row, next_row, last_row, valid_row, covered}
+use Rattle.ballots.specs.Votes.{after, votes}
+use Rattle.ballots.proofs.Reading.{next_row, last_row, valid_row, covered}
 use Rattle.ballots.proofs.rows.valid_ballots.Goals as goal
 
 pub loop-before-init : goal.loop-before-init
-loop-before-init c = first_row c.args.plan.now (held c.args.memory.now) c.args.process c.args.case _ c.sifted_row-row.ensures
+unfolding votes
+loop-before-init c = c.sifted_row-row.ensures
 
 pub loop-before-preserved : goal.loop-before-preserved
 loop-before-preserved c =

@@ -1,6 +1,5 @@
-use Rattle.std.proofs.Common.{length, ap, ◌∙◌, arith}
-use Rattle.memory.specs.Contents.{Held, held}
-use Rattle.broadcast.specs.Receiving.{outcome}
+use Rattle.std.proofs.Common.{◌∙◌, arith}
+use Rattle.memory.specs.Contents.{held}
 use Rattle.broadcast.proofs.Admitted.{Admitted, admitted}
 use Rattle.broadcast.proofs.Settled.{accepted_stays, settles}
 use Rattle.broadcast.proofs.receiving.receive.Goals as goal
@@ -19,23 +18,15 @@ returns-in-Accepted c =
 pub listen-count-requires : goal.listen-count-requires
 listen-count-requires c = let a = found (goal.at.listen-count-requires c).In-Some in record { known = omega arith; echoes = a.echoes; readies = a.readies }
 
-pub turn_stage-requires : goal.turn_stage-requires
-turn_stage-requires c =
-    let a = found (goal.at.turn_stage-requires c).In-Some in
-    record {
-      inside = omega (arith, ap (λ (x : Held). length x.broadcasts) c.listen-count.ensures.held);
-      ordered = omega (arith, c.thresholds.ensures.sound.enough);
-    }
-
 pub returns : goal.returns
 returns c =
-    let after = held c.listen-count.new.memory in
-    (λ i.
-    outcome (record { broadcasts = c.turn_stage.ensures.stage i; bodies = after.bodies; cases = after.cases; serials = after.serials })
-    (c.turn_stage.ensures.reaction i))
-    ∙ settles c.args.plan.now c.in-Some.place c.args.message.now (held c.args.memory.now) c.thresholds.result c.listen-count.result after
+    settles c.args.plan.now c.in-Some.place c.args.message.now (held c.args.memory.now) c.thresholds.result c.listen-count.result (held c.listen-count.new.memory)
     (λ b e. c.in_default-stage.not-Accepted b (c.stage.ensures ∙ e))
     c.thresholds.ensures.value
     c.listen-count.ensures.held
     c.listen-count.ensures.count
+    c.turn_stage.new.«record»
+    c.turn_stage.result
+    c.turn_stage.ensures.stage
+    c.turn_stage.ensures.reaction
     ∙ (found (goal.at.returns c).In-Some).handles

@@ -2,13 +2,13 @@ use Rattle.std.proofs.lemmas.Result.{err_from_is_err_and}
 use Rattle.grammar.proofs.Walk.{pull_fault, ends_none, ends_some}
 use Rattle.grammar.proofs.parts.finish.Goals as goal
 
-pub returns-in_err-next : goal.returns-in_err-next
-returns-in_err-next c =
+pub returns-in_err-next_token : goal.returns-in_err-next_token
+returns-in_err-next_token c =
     let p = err_from_is_err_and c.from_residual.result c.from_residual.ensures.1 in
-    rw (p.1, p.2) (pull_fault _ _ _ c.in_err-next.ensures.value _)
+    rw (p.1, p.2) (pull_fault _ _ _ c.in_err-next_token.ensures.value _)
 
 pub returns-in-Some : goal.returns-in-Some
-returns-in-Some c = ends_some c.args.cursor.now _ _ _ _ c.in-Some.is c.in_ok-next.ensures.value c.place-place.ensures
+returns-in-Some c = ends_some c.args.cursor.now _ _ _ _ c.in-Some.is c.in_ok-next_token.ensures.value c.place-place.ensures
 
 pub returns-in-None : goal.returns-in-None
-returns-in-None c = ends_none c.args.cursor.now _ _ c.in-None.is c.in_ok-next.ensures.value
+returns-in-None c = ends_none c.args.cursor.now _ _ c.in-None.is c.in_ok-next_token.ensures.value

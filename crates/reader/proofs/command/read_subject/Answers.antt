@@ -5,4 +5,4 @@ use Rattle.reader.proofs.command.read_subject.Goals as goal
 
 pub returns-in-ballot : goal.returns-in-ballot
 returns-in-ballot c =
-    let word = at_word c.expect-2.new.cursor c.pull.new.cursor c.in_ok-pull.field-0 c.text.result.now (codes "ballot") c.in_ok-pull.ensures c.text.ensures (search (rules, text_from_reads)) in search rules
+    let word = at_word c.expect-2.new.cursor c.pull.new.cursor c.in_ok-token.field-0 c.text.result.now (codes "ballot") c.in_ok-token.ensures c.text.ensures (search (rules, text_from_reads)) in search rules

@@ -1,8 +1,7 @@
 use Rattle.std.proofs.Common.{ℕ, List, Ok, Err, Result}
 use Rattle.protocol.specs.declared.messages.Message.{Message}
 use Rattle.protocol.specs.declared.refusals.Refusal.{Refusal}
-use Rattle.plan.specs.declared.drafts.Draft.{Draft}
-use Rattle.plan.specs.declared.drafts.Line.{Line}
+use Rattle.plan.specs.Kinds.{Draft, Line}
 use Rattle.memory.specs.Contents.{Held}
 use Rattle.coin.specs.Sides.{Alike}
 use Rattle.rules.specs.Runs.{Coin}

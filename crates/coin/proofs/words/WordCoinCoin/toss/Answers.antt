@@ -1,4 +1,4 @@
 use Rattle.coin.proofs.words.WordCoinCoin.toss.Goals as goal
 
 pub returns : goal.returns
-returns c = cc (c.toss_for_all.ensures.answer 0)
+returns c = c.toss_for_all.ensures.answer 0

@@ -5,7 +5,7 @@ use Rattle.memory.proofs.Grid.{records_few, inside}
 use Rattle.memory.proofs.places.slots.locate.Goals as goal
 
 abbrev at : goal.After-number_of-number → ℕ
-at c = (c.args.process * c.n-n.result + c.originator.result) * (c.serials.result + 3 * c.phases.result * c.cases.result) + c.number_of-number.result
+at c = (c.args.process * c.n-n.result + c.originator.result) * (c.serials.result + c.rounds.result * c.cases.result) + c.number_of-number.result
 
 few : (c : goal.After-number_of-number) → at c ≤ 106496
 few c =

@@ -1,6 +1,0 @@
-use Rattle.std.proofs.Common.{append_assoc}
-use Rattle.form.proofs.writer.put_forge.Goals as goal
-
-pub returns : goal.returns
-returns c =
-    simp (c.in_ok-put_field-3.ensures, c.in_ok-put_subject.ensures, c.in_ok-text-2.ensures, c.in_ok-put_step.ensures, c.in_ok-text.ensures, c.in_ok-put_field-2.ensures, c.in_ok-put_field.ensures, append_assoc) at c.put-3.ensures

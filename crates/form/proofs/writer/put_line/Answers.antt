@@ -1,5 +1,0 @@
-use Rattle.std.proofs.Common.{append_assoc}
-use Rattle.form.proofs.writer.put_line.Goals as goal
-
-pub returns : goal.returns
-returns c = simp (c.in_ok-put_marks.ensures, c.in_ok-text.ensures, c.in_ok-put_field-2.ensures, c.in_ok-put_field.ensures, append_assoc) at c.put-2.ensures

@@ -1,0 +1,5 @@
+use Rattle.item.specs.Bodies.{masked}
+use Rattle.item.proofs.records.RecordItem.unpack.Goals as goal
+
+pub returns : goal.returns
+returns c = cc (masked c.args.body)

@@ -1,5 +1,0 @@
-use Rattle.item.specs.Bodies.{masked}
-use Rattle.item.proofs.records.methods.RecordItem.unpack.Goals as goal
-
-pub returns : goal.returns
-returns c = cc (masked c.args.body)
