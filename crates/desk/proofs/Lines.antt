@@ -1,12 +1,10 @@
--- Marks one by one, and the line of a draft. Assumes nothing.
-use Rattle.std.proofs.Common.{◌≡◌, ℕ, suc, ◌+◌, ◌^◌, ◌<◌, ◌≤◌, Bool, true, false, List, length, get_or, drop, Some, None, Ok, Err, Option, Result, MatchResult, IsErrAnd, sym, refl, ap, ◌∙◌}
+-- The line of a draft, and of a form. Assumes nothing.
+use Rattle.std.proofs.Common.{◌≡◌, ℕ, suc, ◌^◌, ◌<◌, ◌≤◌, Bool, true, false, List, Some, None, Ok, Err, Option, Result, MatchResult, IsErrAnd, sym, refl, ap, ◌∙◌}
 use mathlib.Core.HLevel.{is_prop→PathP}
 use native.Mathlib.Bridge.{le_prop}
 use lib.Count.{ones}
-use Rattle.std.proofs.lemmas.List.{at_drop_more, at_drop_all}
 use Rattle.std.proofs.lemmas.Bool.{and_from, le-leb, lt-ltb, true≢false}
 use Rattle.protocol.specs.declared.refusals.Refusal.{Refusal}
-use Rattle.plan.specs.Marks.{mark_answer, marks_after}
 use Rattle.plan.specs.Plans.{planned}
 use Rattle.plan.specs.declared.plans.Plan.{Plan}
 use Rattle.plan.specs.Kinds.{Draft, Line}
@@ -16,29 +14,7 @@ use Rattle.form.specs.declared.forms.Form.TheVariants as form
 use Rattle.form.specs.declared.forms.LineForm.{LineForm}
 use Rattle.memory.specs.Contents.{Held, cleared}
 use Rattle.line.specs.Opening.{open_refusal, Opened, NotOpened, Opens}
-use Rattle.desk.specs.Desk.{past, marking, lawful, line_if, line_of, opening, opens_with, opens_marked, opens_planned, opens, opens_by}
-
--- one mark more of a list, while the draft's plan Q is the plan P
-module _ (P Q : Plan) (marks : ℕ) where
-  pub mark_one : (next : ℕ) (ms : List ℕ) (i : ℕ) (all : Result ℕ Refusal) → i < length ms → Q ≡ P → Ok tt ≡ mark_answer Q marks (get_or ms i 0) → next ≡ marks_after Q marks (get_or ms i 0) → marking P marks (drop i ms) ≡ all → marking P next (drop (i + 1) ms) ≡ all
-  mark_one next ms i all within same answer after inv =
-      let x = get_or ms i 0 in
-      let rest = drop (i + 1) ms in
-      let done : mark_answer P marks x ≡ Ok tt = sym (answer ∙ ap (λ (p : Plan). mark_answer p marks x) same) in
-      let now : next ≡ marks_after P marks x = after ∙ ap (λ (p : Plan). marks_after p marks x) same in
-      ap (λ (k : ℕ). marking P k rest) now
-      ∙ (sym (ap (λ (r : Result (Unit {0}) Refusal). past r (marking P (marks_after P marks x) rest)) done)
-      ∙ (sym (at_drop_more (marking P marks) ms i 0 within) ∙ inv))
-
-  pub mark_refused : (e : Refusal) (ms : List ℕ) (i : ℕ) (all : Result ℕ Refusal) → i < length ms → Q ≡ P → Err e ≡ mark_answer Q marks (get_or ms i 0) → marking P marks (drop i ms) ≡ all → Err e ≡ all
-  mark_refused e ms i all within same answer inv =
-      let x = get_or ms i 0 in
-      let rest = marking P (marks_after P marks x) (drop (i + 1) ms) in
-      ap (λ (r : Result (Unit {0}) Refusal). past r rest) (answer ∙ ap (λ (p : Plan). mark_answer p marks x) same)
-      ∙ (sym (at_drop_more (marking P marks) ms i 0 within) ∙ inv)
-
-pub marking_all : (plan : Plan) (marks : ℕ) (ms : List ℕ) (i : ℕ) → length ms ≤ i → marking plan marks (drop i ms) ≡ Ok marks
-marking_all plan marks ms i h = at_drop_all (marking plan marks) ms i h
+use Rattle.desk.specs.Desk.{marking, lawful, line_if, line_of, opening, opens_with, opens_marked, opens_planned, opens, opens_by}
 
 -- lines with equal plans and marks are equal
 same_line : (l k : Line) → l.plan ≡ k.plan → l.marks ≡ k.marks → l ≡ k

@@ -26,13 +26,15 @@ pub(crate) fn turn_of(form: Form) -> Result<Turn<Tag>, Refusal>
             case,
             vote,
         }),
-        Form::Forge(ForgeForm {
-            from,
-            to,
-            step,
-            subject,
-            body,
-        }) => Message::new(from, to, step, subject, body).map(|message| Turn::Forge { message }),
+        Form::Forge(
+            ForgeForm {
+                from,
+                to,
+                step,
+                subject,
+                body,
+            },
+        ) => Message::new(from, to, step, subject, body).map(|message| Turn::Forge { message }),
         Form::Deliver { counter, pick } => Ok(Turn::Deliver {
             process: counter,
             pick,

@@ -16,7 +16,3 @@ pub returns-in_ok-put_field-in-Delivered-2 : goal.returns-in_ok-put_field-in-Del
 returns-in_ok-put_field-in-Delivered-2 c =
     let number = c.from.ensures ∙ byte c.in-Delivered.delivered.accepted in
     at_arm answer_text c.put-in-Delivered.result _ _ _ c.in-Delivered.is (simp (c.in_ok-put_field-in-Delivered-2.ensures, c.in_ok-put_field-in-Delivered.ensures, number, append_assoc) at c.put-in-Delivered.ensures)
-
-pub returns-in_ok-put_field-in-Advanced-2 : goal.returns-in_ok-put_field-in-Advanced-2
-returns-in_ok-put_field-in-Advanced-2 c =
-    at_arm answer_text c.put-in-Advanced.result _ _ _ c.in-Advanced.is (simp (c.in_ok-put_field-in-Advanced-2.ensures, c.in_ok-put_field-in-Advanced.ensures, append_assoc) at c.put-in-Advanced.ensures)
