@@ -5,7 +5,7 @@ use Rattle.protocol.specs.declared.refusals.Refusal.{Refusal}
 use Rattle.protocol.specs.declared.votes.Side.{Side}
 use Rattle.plan.specs.Kinds.{Line}
 use Rattle.carrier.specs.Posting.{Posts, none, more}
-use Rattle.memory.specs.Contents.{Held, with_serial, case_at}
+use Rattle.memory.specs.Contents.{Held, held, with_serial, case_at}
 use Rattle.memory.specs.Places.{case_place}
 use Rattle.row.specs.Order.{TookAt, left_at, picked}
 use Rattle.cases.specs.declared.steps.Step.{Step}
@@ -15,8 +15,13 @@ use Rattle.runs.specs.Performed.{answer_of, asked, Carried, Performed}
 use Rattle.runs.specs.declared.turns.Turn as runs
 use Rattle.runs.specs.declared.turns.Answer.{Answer}
 use Rattle.runs.specs.declared.turns.Answer.TheVariants.{Announced, Posted, Delivered, Advanced}
+use Rattle.carriers.specs.Kinds.{Basket}
+use Rattle.coin.specs.Sides.{word_side}
 use Rattle.form.specs.declared.forms.Form.{Form}
-use Rattle.desk.specs.Desk.{keeping, asks, desk, done, answered, turned, turns, turns_at}
+use Rattle.item.specs.Tags.{number_of}
+use Rattle.item.specs.declared.tags.Tag.{Tag}
+use Rattle.desk.specs.Desk.{waiting_in, places, state, keeping, asks, desk, done, answered, turned, turns, acts_at, acts}
+use Rattle.desk.specs.declared.desks.Desk.{Desk}
 use Rattle.desk.specs.Act.{acted, delivering, advancing, doing, acting_by, act}
 
 alike : {r s : Result Answer Refusal} {h k : Held} {ws us : List Message} → r ≡ s → h ≡ k → ws ≡ us → acted r h ws ≡ acted s k us
@@ -85,13 +90,18 @@ module _ {C : Type 0} (listing : C → List Message) where
         ∙ alike (λ j. Ok (Advanced (record { round = sym a.answer j; posted = sym a.done.counted j }))) (sym memory) (sym waits)
 
     -- a turn that was performed
-    pub performed : {I : Type 0} (packed : I → ℕ) (turn : runs.Turn I) (r : Result Answer Refusal) (next : Held) (y : C) → Performed behind picking line coin h packed capacity ws turn r x next (listing y) y → acted r next (listing y) ≡ act line coin h ws capacity (asked packed turn)
+    performed : {I : Type 0} (packed : I → ℕ) (turn : runs.Turn I) (r : Result Answer Refusal) (next : Held) (y : C) → Performed behind picking line coin h packed capacity ws turn r x next (listing y) y → acted r next (listing y) ≡ act line coin h ws capacity (asked packed turn)
     performed packed turn r next y p =
         sym (ap (act line coin h ws capacity) (sym p.told) ∙ happened p.event next y p.happens p.carried ∙ alike (sym p.answer) refl refl)
 
--- a turn that was made where a line is open
-pub turn_done : (capacity : ℕ) (o : Option Line) (line : Line) (h : Held) (ws : List Message) (form : Form) (turn : Turn) (r : Result Answer Refusal) (next : Held) (left : List Message) → o ≡ Some line → Ok turn ≡ asks form → acted r next left ≡ act line keeping h ws capacity turn → done (answered r) (desk o next left) ≡ turns_at capacity o h ws form
-turn_done capacity o line h ws form turn r next left is_open told made =
-    (λ j. done (answered r) (desk (is_open j) next left))
-    ∙ ap (turned line) (made ∙ ap (turns capacity line h ws) told)
-    ∙ ap (λ (l : Option Line). turns_at capacity l h ws form) (sym is_open)
+-- a turn that was made where a line is open, with a coin that shows keep
+pub turn_made : (d : Desk) (line : Line) (form : Form) (turn : runs.Turn Tag) (word : ℕ) (r : Result Answer Refusal) (next : Held) (after : Basket) → d.line ≡ Some line → Ok (asked number_of turn) ≡ asks form → word ≡ 0 → Performed (behind waiting_in) (picking waiting_in) line (λ process. word_side word) (held d.memory) number_of (places d) (waiting_in d.basket) turn r d.basket next (waiting_in after) after → done (answered r) (desk d.line next (waiting_in after)) ≡ acts (places d) (state d) form
+turn_made d line form turn word r next after is_open told keeps made =
+    let h = held d.memory in
+    let ws = waiting_in d.basket in
+    let acts_so : acted r next (waiting_in after) ≡ act line keeping h ws (places d) (asked number_of turn) =
+    performed waiting_in line (λ process. word_side word) h (places d) d.basket number_of turn r next after made
+    ∙ ap (λ (w : ℕ). act line (λ process. word_side w) h ws (places d) (asked number_of turn)) keeps in
+    (λ j. done (answered r) (desk (is_open j) next (waiting_in after)))
+    ∙ (ap (turned line) (acts_so ∙ ap (turns (places d) line h ws) told)
+    ∙ ap (λ (l : Option Line). acts_at (places d) l h ws form) (sym is_open))

@@ -1,41 +1,20 @@
--- Marks one by one, and the line of a draft. Assumes nothing.
-use Rattle.std.proofs.Common.{◌≡◌, ℕ, suc, ◌+◌, ◌^◌, ◌<◌, ◌≤◌, Bool, true, false, List, length, get_or, drop, Some, None, Ok, Err, Option, Result, MatchResult, IsErrAnd, sym, refl, ap, ◌∙◌}
+-- The line of a draft, and of a form. Assumes nothing.
+use Rattle.std.proofs.Common.{◌≡◌, ℕ, suc, ◌^◌, ◌<◌, ◌≤◌, Bool, true, false, List, Some, None, Ok, Err, Option, Result, MatchResult, IsErrAnd, sym, refl, ap, ◌∙◌}
 use mathlib.Core.HLevel.{is_prop→PathP}
 use native.Mathlib.Bridge.{le_prop}
 use lib.Count.{ones}
-use Rattle.std.proofs.lemmas.List.{at_drop_more, at_drop_all}
 use Rattle.std.proofs.lemmas.Bool.{and_from, le-leb, lt-ltb, true≢false}
 use Rattle.protocol.specs.declared.refusals.Refusal.{Refusal}
-use Rattle.plan.specs.Marks.{mark_answer, marks_after}
 use Rattle.plan.specs.Plans.{planned}
 use Rattle.plan.specs.declared.plans.Plan.{Plan}
 use Rattle.plan.specs.Kinds.{Draft, Line}
 use Rattle.protocol.specs.declared.messages.Message.{Message}
+use Rattle.form.specs.declared.forms.Form.{Form}
+use Rattle.form.specs.declared.forms.Form.TheVariants as form
+use Rattle.form.specs.declared.forms.LineForm.{LineForm}
 use Rattle.memory.specs.Contents.{Held, cleared}
 use Rattle.line.specs.Opening.{open_refusal, Opened, NotOpened, Opens}
-use Rattle.desk.specs.Desk.{past, marking, lawful, line_if, line_of, opening, opens_with, opens_marked, opens_planned, opens}
-
--- one mark more of a list, while the draft's plan Q is the plan P
-module _ (P Q : Plan) (marks : ℕ) where
-  pub mark_one : (next : ℕ) (ms : List ℕ) (i : ℕ) (all : Result ℕ Refusal) → i < length ms → Q ≡ P → Ok tt ≡ mark_answer Q marks (get_or ms i 0) → next ≡ marks_after Q marks (get_or ms i 0) → marking P marks (drop i ms) ≡ all → marking P next (drop (i + 1) ms) ≡ all
-  mark_one next ms i all within same answer after inv =
-      let x = get_or ms i 0 in
-      let rest = drop (i + 1) ms in
-      let done : mark_answer P marks x ≡ Ok tt = sym (answer ∙ ap (λ (p : Plan). mark_answer p marks x) same) in
-      let now : next ≡ marks_after P marks x = after ∙ ap (λ (p : Plan). marks_after p marks x) same in
-      ap (λ (k : ℕ). marking P k rest) now
-      ∙ (sym (ap (λ (r : Result (Unit {0}) Refusal). past r (marking P (marks_after P marks x) rest)) done)
-      ∙ (sym (at_drop_more (marking P marks) ms i 0 within) ∙ inv))
-
-  pub mark_refused : (e : Refusal) (ms : List ℕ) (i : ℕ) (all : Result ℕ Refusal) → i < length ms → Q ≡ P → Err e ≡ mark_answer Q marks (get_or ms i 0) → marking P marks (drop i ms) ≡ all → Err e ≡ all
-  mark_refused e ms i all within same answer inv =
-      let x = get_or ms i 0 in
-      let rest = marking P (marks_after P marks x) (drop (i + 1) ms) in
-      ap (λ (r : Result (Unit {0}) Refusal). past r rest) (answer ∙ ap (λ (p : Plan). mark_answer p marks x) same)
-      ∙ (sym (at_drop_more (marking P marks) ms i 0 within) ∙ inv)
-
-pub marking_all : (plan : Plan) (marks : ℕ) (ms : List ℕ) (i : ℕ) → length ms ≤ i → marking plan marks (drop i ms) ≡ Ok marks
-marking_all plan marks ms i h = at_drop_all (marking plan marks) ms i h
+use Rattle.desk.specs.Desk.{marking, lawful, line_if, line_of, opening, opens_with, opens_marked, opens_planned, opens, opens_by}
 
 -- lines with equal plans and marks are equal
 same_line : (l k : Line) → l.plan ≡ k.plan → l.marks ≡ k.marks → l ≡ k
@@ -59,36 +38,36 @@ line_is line = go (lawful line.plan line.marks) refl where
 pub line_of_lem : (line : Line) (plan : Plan) (marks : ℕ) → line.plan ≡ plan → line.marks ≡ marks → line_of plan marks ≡ Ok line
 line_of_lem line plan marks e f = (λ i. line_of (sym e i) (sym f i)) ∙ line_is line
 
--- opening a line, from its plan on
-module _ (h : Held) (ws : List Message) (n t : ℕ) (ms : List ℕ) where
-  pub no_plan : (e : Refusal) → Err e ≡ planned n t 2 1 3 → opening (Err e) h ≡ opens h ws n t ms
+-- opening the line of a form, from its plan on
+module _ (h : Held) (ws : List Message) (l : LineForm) (f : Form) (is : f ≡ form.Line l) where
+  pub no_plan : (e : Refusal) → Err e ≡ planned l.counters l.tolerate 2 1 3 → opening (Err e) h ≡ opens_by h ws f
   unfolding opens
-  no_plan e p = ap (λ (r : Result Plan Refusal). opens_planned h ws r ms) p
+  no_plan e p = ap (λ (r : Result Plan Refusal). opens_planned h ws r l.strange) p ∙ ap (opens_by h ws) (sym is)
 
-  module _ (plan : Plan) (p : Ok plan ≡ planned n t 2 1 3) where
-    by_marks : (r : Result ℕ Refusal) → r ≡ marking plan 0 ms → opens_marked h ws plan r ≡ opens h ws n t ms
+  module _ (plan : Plan) (p : Ok plan ≡ planned l.counters l.tolerate 2 1 3) where
+    by_marks : (r : Result ℕ Refusal) → r ≡ marking plan 0 l.strange → opens_marked h ws plan r ≡ opens_by h ws f
     unfolding opens
-    by_marks r q = ap (opens_marked h ws plan) q ∙ ap (λ (x : Result Plan Refusal). opens_planned h ws x ms) p
+    by_marks r q = ap (opens_marked h ws plan) q ∙ (ap (λ (x : Result Plan Refusal). opens_planned h ws x l.strange) p ∙ ap (opens_by h ws) (sym is))
 
-    pub no_marks : (e : Refusal) → Err e ≡ marking plan 0 ms → opening (Err e) h ≡ opens h ws n t ms
+    pub no_marks : (e : Refusal) → Err e ≡ marking plan 0 l.strange → opening (Err e) h ≡ opens_by h ws f
     no_marks e q = by_marks (Err e) q
 
-    module _ (draft : Draft) (same : draft.plan ≡ plan) (q : Ok draft.marks ≡ marking plan 0 ms) where
-      opened : (line : Line) (after : Held) → Opened draft h ws line after → opening (Ok line) after ≡ opens h ws n t ms
+    module _ (draft : Draft) (same : draft.plan ≡ plan) (q : Ok draft.marks ≡ marking plan 0 l.strange) where
+      opened : (line : Line) (after : Held) → Opened draft h ws line after → opening (Ok line) after ≡ opens_by h ws f
       opened line after o =
           let allowed : open_refusal plan h ws ≡ None = ap (λ (x : Plan). open_refusal x h ws) (sym same) ∙ o.allowed in
           let memory : after ≡ cleared plan h = o.memory ∙ ap (λ (x : Plan). cleared x h) same in
           ap (opening (Ok line)) memory
           ∙ ((λ i. opens_with h ws plan (sym allowed i) (sym (line_of_lem line plan draft.marks (o.plan ∙ same) o.marks) i)) ∙ by_marks (Ok draft.marks) q)
 
-      not_opened : (e : Refusal) (back : Draft) (after : Held) → NotOpened draft h ws e back after → opening (Err e) after ≡ opens h ws n t ms
+      not_opened : (e : Refusal) (back : Draft) (after : Held) → NotOpened draft h ws e back after → opening (Err e) after ≡ opens_by h ws f
       not_opened e back after o =
           let why : open_refusal plan h ws ≡ Some e = ap (λ (x : Plan). open_refusal x h ws) (sym same) ∙ o.first in
           ap (opening (Err e)) o.memory
           ∙ (ap (λ (r : Option Refusal). opens_with h ws plan r (line_of plan draft.marks)) (sym why) ∙ by_marks (Ok draft.marks) q)
 
       -- the line, or the refusal without the draft
-      pub opened_or_not : (r : Result Line (Refusal × Draft)) (q : Result Line Refusal) (after : Held) → Opens draft h ws r after → MatchResult r (λ l. q ≡ Ok l) (λ e. IsErrAnd q (λ x. x ≡ e.0)) → opening q after ≡ opens h ws n t ms
+      pub opened_or_not : (r : Result Line (Refusal × Draft)) (q : Result Line Refusal) (after : Held) → Opens draft h ws r after → MatchResult r (λ l. q ≡ Ok l) (λ e. IsErrAnd q (λ x. x ≡ e.0)) → opening q after ≡ opens_by h ws f
       opened_or_not (Ok line) q after o e = ap (λ (x : Result Line Refusal). opening x after) e ∙ opened line after o
       opened_or_not (Err refused) (Ok line) after o e = absurd e
       opened_or_not (Err refused) (Err x) after o e = ap (λ (y : Refusal). opening (Err y) after) e ∙ not_opened refused.0 refused.1 after o

@@ -93,6 +93,15 @@ module _ (h : Held) (ws : List Message) where
   unfoldable pub opens : ℕ → ℕ → List ℕ → Opening
   opens n t ms = opens_planned (planned n t 2 1 3) ms
 
+  -- a form that is not for a line is out of place
+  abbrev pub opens_by : Form → Opening
+  opens_by (form.Line l) = opens l.counters l.tolerate l.strange
+  opens_by (form.Announce c t) = opening (Err LineOutOfPlace) h
+  opens_by (form.Open c k v) = opening (Err LineOutOfPlace) h
+  opens_by (form.Forge g) = opening (Err LineOutOfPlace) h
+  opens_by (form.Deliver c p) = opening (Err LineOutOfPlace) h
+  opens_by (form.Advance c k) = opening (Err LineOutOfPlace) h
+
 -- The turn that a form asks for where a line is open: its tag or its message is made first.
 abbrev pub announcing : ℕ → Result Tag Refusal → Result Turn Refusal
 announcing i (Ok tag) = Ok (Announce i (number_of tag))
@@ -158,20 +167,11 @@ opened_by (Err e) h ws = done (Err e) (desk None h ws)
 abbrev pub begins : List Message → Opening → Done
 begins ws o = opened_by o.answer o.memory ws
 
--- A form for a line is out of place while one is open, and a turn while none is.
-abbrev pub opens_at : Option Line → Held → List Message → ℕ → ℕ → List ℕ → Done
-opens_at (Some line) h ws n t ms = done (Err LineOutOfPlace) (desk (Some line) h ws)
-opens_at None h ws n t ms = begins ws (opens h ws n t ms)
-
-abbrev pub turns_at : ℕ → Option Line → Held → List Message → Form → Done
-turns_at capacity (Some line) h ws f = turned line (turns capacity line h ws (asks f))
-turns_at capacity None h ws f = done (Err LineOutOfPlace) (desk None h ws)
+-- Before a line is open a form may open one, and from then on it may be a turn.
+abbrev pub acts_at : ℕ → Option Line → Held → List Message → Form → Done
+acts_at capacity None h ws f = begins ws (opens_by h ws f)
+acts_at capacity (Some line) h ws f = turned line (turns capacity line h ws (asks f))
 
 -- what a form does at a desk with a basket of so many places
 abbrev pub acts : ℕ → AtDesk → Form → Done
-acts capacity d (form.Line l) = opens_at d.line d.memory d.waiting l.counters l.tolerate l.strange
-acts capacity d (form.Announce c t) = turns_at capacity d.line d.memory d.waiting (form.Announce c t)
-acts capacity d (form.Open c k v) = turns_at capacity d.line d.memory d.waiting (form.Open c k v)
-acts capacity d (form.Forge g) = turns_at capacity d.line d.memory d.waiting (form.Forge g)
-acts capacity d (form.Deliver c p) = turns_at capacity d.line d.memory d.waiting (form.Deliver c p)
-acts capacity d (form.Advance c k) = turns_at capacity d.line d.memory d.waiting (form.Advance c k)
+acts capacity d f = acts_at capacity d.line d.memory d.waiting f

@@ -5,7 +5,6 @@ mod desks;
 mod opening;
 mod said;
 mod turning;
-mod writing;
 
 pub use desks::Desk;
 pub use said::Said;

@@ -1,10 +1,10 @@
 // Opening a line by its form.
 ghost use Rattle.std.specs.Prelude.{◌≡◌, IfOk};
 ghost use Rattle.memory.specs.Contents.{held};
-ghost use Rattle.desk.specs.Desk.{waiting_in, marking, drafted, opening as opened, opens};
+ghost use Rattle.desk.specs.Desk.{waiting_in, marking, drafted, opening as opened, opens_by};
 
 use carriers::Basket;
-use form::Marks;
+use form::{Form, Marks};
 use line::open_line;
 use memory::Memory;
 use plan::{Draft, Line, Plan};
@@ -28,17 +28,14 @@ fn draft_marked(plan: Plan, marks: &Marks) -> Result<Draft, Refusal>
     Ok(draft)
 }
 
-// Makes the plan and marks its processes, and opens the line.
-pub(crate) fn open(
-    memory: &mut Memory,
-    basket: &Basket,
-    counters: u64,
-    tolerate: u64,
-    strange: &Marks,
-) -> Result<Line, Refusal>
-    ensures { opened result (held memory.new) ≡ opens (held memory.old) (waiting_in basket.now) counters tolerate strange.now }
+// Makes the plan of a form for a line, marks its processes and opens the line. Another form is out of place.
+pub(crate) fn open(memory: &mut Memory, basket: &Basket, form: Form) -> Result<Line, Refusal>
+    ensures { opened result (held memory.new) ≡ opens_by (held memory.old) (waiting_in basket.now) form }
 {
-    let plan = Plan::new(counters, tolerate, SERIALS, CASES, PHASES)?;
-    let draft = draft_marked(plan, strange)?;
+    let Form::Line(wanted) = form else {
+        return Err(Refusal::LineOutOfPlace);
+    };
+    let plan = Plan::new(wanted.counters, wanted.tolerate, SERIALS, CASES, PHASES)?;
+    let draft = draft_marked(plan, &wanted.strange)?;
     open_line(draft, memory, basket).map_err(|(refusal, _)| refusal)
 }

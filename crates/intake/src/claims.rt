@@ -8,7 +8,7 @@ use line::{advance, open_case};
 use memory::case_place;
 use protocol::{Ballot, Refusal, Step, Subject};
 
-const CASE: u64 = 0;
+pub const CASE: u64 = 0;
 
 // The coin shows release in the first phase and keep in the second.
 const SIDES: u64 = 1;
@@ -143,14 +143,8 @@ impl<'a, R: Print, C: Carrier> Story<'a, R, C> {
         for process in 0..FAULTY {
             let place = case_place(&self.line.plan(), process, CASE);
             let at = place.context("the plan has no such case")?;
-            match self.memory.case_record(at).decision {
-                None => println!(self.rt; "counter {process} decided nothing")?,
-                Some(decision) => {
-                    let name = Told(decision.side);
-                    let phase = decision.phase;
-                    println!(self.rt; "counter {process} decided {name} in phase {phase}")?;
-                }
-            }
+            let what = Told(self.memory.case_record(at).decision);
+            println!(self.rt; "counter {process} decided {what}")?;
         }
         Ok(())
     }

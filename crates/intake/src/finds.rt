@@ -6,7 +6,7 @@ use carrier::Carrier;
 use item::{Item, Record};
 use line::announce;
 use protocol::{Refusal, Step, Subject};
-use reading::{Reading, read};
+use reading::read;
 use rules::Delivered;
 
 // What the faulty process says to whom, of which item and with which shelf: originator and serial are the third and the
@@ -123,16 +123,9 @@ impl<'a, R: Print, C: Carrier> Story<'a, R, C> {
 
     fn read_record(&self, process: u64, subject: Subject) -> anyhow::Result<()> {
         let about = Told(subject);
-        match read::<Record>(&self.line, &self.memory, process, subject)? {
-            Reading::Nothing => println!(self.rt; "counter {process} reads {about}: nothing")?,
-            Reading::Unreadable => {
-                println!(self.rt; "counter {process} reads {about}: unreadable")?
-            }
-            Reading::Value(record) => {
-                let what = Told(record);
-                println!(self.rt; "counter {process} reads {about}: {what}")?;
-            }
-        }
+        let reading = read::<Record>(&self.line, &self.memory, process, subject)?;
+        let what = Told(reading);
+        println!(self.rt; "counter {process} reads {about}: {what}")?;
         Ok(())
     }
 }

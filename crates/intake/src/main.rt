@@ -1,23 +1,19 @@
-//! Tells the way of a violin over a line of four counters, of which one is strange, to the end of a case about it. Writes
-//! to standard output.
+//! Tells the way of a violin over a line of four counters, of which one is strange, to its release after a case about it.
+//! Writes to standard output.
 #![tactic(auto)]
 
 mod claims;
 mod finds;
+mod release;
 mod story;
 mod watches;
 mod words;
 
 use carriers::Basket;
 use memory::{BroadcastRecord, CaseRecord, Memory};
-use protocol::{Message, Step, Subject};
+use protocol::Message;
 use story::{Story, open_four};
 use watches::Watch;
-
-const ITEM: Subject = Subject::Item {
-    originator: 0,
-    serial: 0,
-};
 
 // Lends the memory that four processes with two serials each need for a case of two phases.
 fn main(rt: HostRuntime) -> anyhow::Result<()> {
@@ -27,7 +23,7 @@ fn main(rt: HostRuntime) -> anyhow::Result<()> {
         cases: &mut [CaseRecord::UNOPENED; 4],
         serials: &mut [0; 4],
     };
-    let mut places = [Message::new(0, 0, Step::Initial, ITEM, 0)?; 256];
+    let mut places = [Message::BLANK; 256];
     let carrier = Watch::new(Basket::new(&mut places));
     let line = open_four(&mut memory, &carrier)?;
     let mut story = Story {

@@ -40,7 +40,8 @@ impl<'a, R: Print, C: Carrier> Story<'a, R, C> {
         self.read_all()?;
         self.settle()?;
         self.count_waiting()?;
-        self.tell_decisions()
+        self.tell_decisions()?;
+        self.release()
     }
 
     fn count_waiting(&self) -> anyhow::Result<()> {

@@ -1,7 +1,9 @@
 // What things are called at the counters.
 use anyhow::Context;
 use item::{Item, Record};
+use memory::Decision;
 use protocol::{Ballot, Side, Step, Subject};
+use reading::Reading;
 use std::fmt;
 
 // A value of another crate, as the counters call it.
@@ -33,6 +35,28 @@ impl fmt::Display for Told<Record> {
             f,
             "kind {kind}, colour {colour}, station {station}, day {day}, shelf {shelf}"
         )
+    }
+}
+
+impl fmt::Display for Told<Reading<Record>> {
+    fn fmt<W: fmt::Write>(&self, f: &mut fmt::Formatter<W>) -> fmt::Result {
+        match &self.0 {
+            Reading::Nothing => f.write_str("nothing"),
+            Reading::Unreadable => f.write_str("unreadable"),
+            Reading::Value(record) => Told(*record).fmt(f),
+        }
+    }
+}
+
+impl fmt::Display for Told<Option<Decision>> {
+    fn fmt<W: fmt::Write>(&self, f: &mut fmt::Formatter<W>) -> fmt::Result {
+        match self.0 {
+            None => f.write_str("nothing"),
+            Some(Decision { side, phase }) => {
+                let name = Told(side);
+                write!(f, "{name} in phase {phase}")
+            }
+        }
     }
 }
 

@@ -5,15 +5,10 @@ use Rattle.memory.specs.Contents.{Held, silent, unopened}
 use Rattle.protocol.specs.declared.refusals.Refusal.{Refusal}
 use Rattle.script.specs.declared.fault.ScriptFault.{ScriptFault}
 use Rattle.script.specs.declared.fault.ScriptFault.TheVariants.{Refused}
-use Rattle.script.specs.Lint.{fault_text, lines, checked, sized}
+use Rattle.script.specs.Lint.{told, checked, script_answered}
 use Rattle.desk.specs.Desk.{AtDesk, desk, acts}
 use Rattle.desk.specs.Wording.{said_text}
 use Rattle.desk.specs.declared.said.Said.{Said}
-
--- the text of an answer, or of why there is none
-abbrev pub reply_text : Result Said ScriptFault → List ℕ
-reply_text (Ok s) = said_text s
-reply_text (Err e) = fault_text e
 
 -- what a line is answered, and what is then at the desk
 pub record Reply : Type 0 where
@@ -36,9 +31,9 @@ unfoldable pub replies : ℕ → ℕ → AtDesk → List ℕ → Reply
 replies places n d line = reply_to places d (checked n line)
 
 -- the answers to lines, the first of which has number n; each finds what the one before it left
-abbrev pub answers : ℕ → ℕ → AtDesk → List (List ℕ) → List ℕ
-answers places n d [] = []
-answers places n d (l ∷ ls) = reply_text (replies places n d l).said ++ (10 ∷ answers places (n + 1) (replies places n d l).desk ls)
+abbrev pub answers : ℕ → AtDesk → ℕ → List (List ℕ) → List ℕ
+answers places d n [] = []
+answers places d n (l ∷ ls) = told said_text (replies places n d l).said ++ (10 ∷ answers places (replies places n d l).desk (n + 1) ls)
 
 -- memory for 5 processes with 2 serials, 1 case and 3 phases
 unfoldable pub fresh : Held
@@ -54,10 +49,6 @@ fresh =
 abbrev pub at_start : AtDesk
 at_start = desk None fresh []
 
-abbrev pub whole : List ℕ → Result (Unit {0}) ScriptFault → List ℕ
-whole s (Ok x) = answers 400 1 at_start (lines s)
-whole s (Err e) = fault_text e ++ (10 ∷ [])
-
 -- the answer to a whole script, with a basket of 400 places
 abbrev pub rehearsed : List ℕ → List ℕ
-rehearsed s = whole s (sized s)
+rehearsed s = script_answered (answers 400 at_start) s

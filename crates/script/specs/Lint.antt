@@ -1,5 +1,5 @@
 -- What checking a script answers.
-use Rattle.std.specs.Prelude.{ℕ, suc, ◌+◌, cond, List, [], ◌∷◌, ◌++◌, length, Ok, Err, codes, decimal, Result, ◌==◌, nat_lt}
+use Rattle.std.specs.Prelude.{◌≡◌, ℕ, suc, ◌+◌, cond, List, [], ◌∷◌, ◌++◌, length, Ok, Err, codes, decimal, Result, ◌==◌, nat_lt}
 use Rattle.form.specs.declared.forms.Form.{Form}
 use Rattle.form.specs.Format.{written}
 use Rattle.grammar.specs.declared.fault.FormFault.{FormFault}
@@ -53,26 +53,28 @@ checked n line = carried (reading n line)
 abbrev pub sized : List ℕ → Result (Unit {0}) ScriptFault
 sized s = cond (nat_lt 4096 (length s)) (Err (Refused MemoryTooSmall)) (Ok tt)
 
--- what a line is answered: its form written back, or its fault
-abbrev pub told : Result Form ScriptFault → List ℕ
-told (Ok f) = written f
-told (Err e) = fault_text e
+-- the text of an answer, or of why there is none
+abbrev pub told : {A : Type 0} → (A → List ℕ) → Result A ScriptFault → List ℕ
+told text (Ok a) = text a
+told text (Err e) = fault_text e
 
-abbrev pub answer : ℕ → List ℕ → List ℕ
-answer n line = told (checked n line)
+-- the answer to a whole script, by the answers to its lines, of which the first has number 1
+abbrev pub whole : (ℕ → List (List ℕ) → List ℕ) → List ℕ → Result (Unit {0}) ScriptFault → List ℕ
+whole answers s (Ok x) = answers 1 (lines s)
+whole answers s (Err e) = fault_text e ++ (10 ∷ [])
 
--- the answers to lines, the first of which has number n
+abbrev pub script_answered : (ℕ → List (List ℕ) → List ℕ) → List ℕ → List ℕ
+script_answered answers s = whole answers s (sized s)
+
+-- a line with this number is answered so, where these were the answers to lines before, and those are the ones to come
+abbrev pub Responds : {A : Type 0} → (A → List ℕ) → (before after : ℕ → List (List ℕ) → List ℕ) → ℕ → List ℕ → Result A ScriptFault → Type 0
+Responds text before after n line r = (ls : List (List ℕ)) → told text r ++ (10 ∷ after (n + 1) ls) ≡ before n (line ∷ ls)
+
+-- A linter's answers: each line gets its form written back, or its fault.
 abbrev pub answers : ℕ → List (List ℕ) → List ℕ
 answers n [] = []
-answers n (l ∷ ls) = answer n l ++ (10 ∷ answers (n + 1) ls)
+answers n (l ∷ ls) = told written (checked n l) ++ (10 ∷ answers (n + 1) ls)
 
-abbrev pub reported : ℕ → List ℕ → List ℕ
-reported n s = answers n (lines s)
-
-abbrev pub whole : List ℕ → Result (Unit {0}) ScriptFault → List ℕ
-whole s (Ok x) = reported 1 s
-whole s (Err e) = fault_text e ++ (10 ∷ [])
-
--- the answer to a whole script
+-- what a linter answers to a whole script
 abbrev pub linted : List ℕ → List ℕ
-linted s = whole s (sized s)
+linted s = script_answered answers s

@@ -1,7 +1,7 @@
 -- A script's lines, one by one.
 use Rattle.std.specs.Prelude.{◌≡◌, ℕ, ◌+◌, List, [], ◌∷◌, Option, MatchOption}
-use Rattle.std.specs.Borrow.{Bor}
 use Rattle.script.specs.declared.split.Lines.{Lines}
+use Rattle.script.specs.declared.split.ScriptLine.{ScriptLine}
 use Rattle.script.specs.Lint.{lines}
 
 abbrev pub left : Lines → List (List ℕ)
@@ -11,5 +11,5 @@ abbrev pub next_number : Lines → ℕ
 next_number l = l.number
 
 -- a step gives the first line that is left with its number, or none is left
-abbrev pub GivesLine : Lines → Option (ℕ × Bor (List ℕ)) → Lines → Type 0
-GivesLine s r t = MatchOption r (left s ≡ []) (λ x. (x.0 ≡ next_number s) × ((left s ≡ x.1.now ∷ left t) × (next_number t ≡ next_number s + 1)))
+abbrev pub GivesLine : Lines → Option ScriptLine → Lines → Type 0
+GivesLine s r t = MatchOption r (left s ≡ []) (λ x. (x.number ≡ next_number s) × ((left s ≡ x.text.now ∷ left t) × (next_number t ≡ next_number s + 1)))

@@ -3,11 +3,13 @@
 
 mod fault;
 mod linter;
+mod responder;
 mod split;
 
 pub use fault::ScriptFault;
 pub use linter::{check_line, check_size, lint};
-pub use split::{Lines, line_length};
+pub use responder::{Responder, answer};
+pub use split::{Lines, ScriptLine};
 
 #[cfg(test)]
 mod tests;

@@ -1,9 +1,11 @@
-ghost use Rattle.std.specs.Prelude.{◌≡◌, ◌++◌, IfOk};
-ghost use Rattle.script.specs.Lint.{checked, sized, answer, reported, linted};
+ghost use Rattle.std.specs.Prelude.{◌≡◌, IfOk, refl};
+ghost use Rattle.form.specs.Format.{written};
+ghost use Rattle.script.specs.Lint.{checked, sized, answers, linted};
 ghost use Rattle.text.specs.Shown.{shown};
 
 use crate::fault::ScriptFault;
-use crate::split::Lines;
+use crate::responder::{Responder, answer};
+use crate::split::ScriptLine;
 use form::Form;
 use protocol::Refusal;
 use reader::read;
@@ -14,10 +16,10 @@ use text::Text;
 const LIMIT: usize = 4096;
 
 /// The line's form.
-pub fn check_line(number: u64, line: &[u8]) -> Result<Form, ScriptFault>
-    ensures { result ≡ checked number line.now }
+pub fn check_line(line: ScriptLine<'_>) -> Result<Form, ScriptFault>
+    ensures { result ≡ checked line.entry.number line.entry.text.now }
 {
-    Ok(read(number, line)?)
+    Ok(read(line.number, line.text)?)
 }
 
 /// Whether a script is short enough.
@@ -30,32 +32,31 @@ pub fn check_size(input: &[u8]) -> Result<(), ScriptFault>
     Ok(())
 }
 
-// The line's form written back, or its fault.
-fn lint_line(text: Text, number: u64, line: &[u8]) -> Result<Text, AllocError>
-    ensures { IfOk result (λ t. shown t ≡ shown text ++ answer number line.now) }
-{
-    match check_line(number, line) {
-        Ok(form) => form.write_to(text),
-        Err(fault) => fault.write_to(text),
-    }
-}
+// Writes each line's form back.
+#[derive(Drop)]
+struct Linter;
 
-fn lint_lines(mut text: Text, input: &[u8]) -> Result<Text, AllocError>
-    ensures { IfOk result (λ t. shown t ≡ shown text ++ reported 1 input.now) }
-{
-    for (number, line) in Lines::new(input) {
-        text = lint_line(text, number, line)?.put(b"\n")?;
+impl Responder for Linter {
+    type Answer = Form;
+
+    ghost written = { written };
+
+    ghost answers = { λ _. answers };
+
+    ghost none = { λ _ _. refl };
+
+    fn respond(&mut self, line: ScriptLine<'_>) -> Result<Form, ScriptFault> {
+        check_line(line)
     }
-    Ok(text)
+
+    fn write(form: Form, text: Text) -> Result<Text, AllocError> {
+        form.write_to(text)
+    }
 }
 
 /// Checks a script line by line: each line gets its form written back, or its fault.
 pub fn lint(heap: Global, input: &[u8]) -> Result<Text, AllocError>
     ensures { IfOk result (λ t. shown t ≡ linted input.now) }
 {
-    let text = Text::new(heap);
-    match check_size(input) {
-        Ok(()) => lint_lines(text, input),
-        Err(fault) => fault.write_to(text)?.put(b"\n"),
-    }
+    answer(heap, input, &mut Linter)
 }

@@ -1,6 +1,13 @@
 ghost use Rattle.std.specs.Prelude.{◌≡◌, ◌+◌, ◌^◌, ◌<◌, ◌≤◌, ◌==◌, length, position};
 ghost use Rattle.script.specs.Lint.{line_length, lines};
 
+/// A line of a script, and its number.
+#[derive(Clone, Copy)]
+pub struct ScriptLine<'a> {
+    pub number: u64,
+    pub text: &'a [u8],
+}
+
 /// The lines that are left of a script, and the number of the first of them.
 #[derive(Drop)]
 pub struct Lines<'a> {
@@ -16,8 +23,8 @@ fn line_break(rest: &[u8]) -> Option<usize>
     rest.iter().position(|b| *b == b'\n')
 }
 
-/// How many bytes stand before the first line's end.
-pub fn line_length(rest: &[u8]) -> usize
+// How many bytes stand before the first line's end.
+fn line_length(rest: &[u8]) -> usize
     ensures value { result ≡ line_length rest.now }
     ensures within { result ≤ length rest.now }
 {
@@ -44,20 +51,20 @@ impl<'a> Iterator for Lines<'a> {
     ghost use Rattle.std.specs.Iterator.{at_most};
     ghost use Rattle.script.specs.Split.{GivesLine};
 
-    type Item = (u64, &'a [u8]);
+    type Item = ScriptLine<'a>;
 
     ghost remaining = { λ s. at_most (length s.rest.now) };
 
     ghost next_gives = { GivesLine };
 
-    fn next(&mut self) -> Option<(u64, &'a [u8])> {
+    fn next(&mut self) -> Option<ScriptLine<'a>> {
         if self.rest.is_empty() {
             return None;
         }
         let number = self.number;
-        let (line, behind) = self.rest.split_at(line_length(self.rest));
+        let (text, behind) = self.rest.split_at(line_length(self.rest));
         self.rest = behind.get(1..).unwrap_or(behind);
         self.number += 1;
-        Some((number, line))
+        Some(ScriptLine { number, text })
     }
 }

@@ -2,7 +2,7 @@ use Rattle.std.proofs.Common.{◌≡◌, Bool, true, false, cond, refl, ◌∙�
 use mir.Val.{bool_byte}
 use Rattle.text.proofs.Chain.{at_arm}
 use Rattle.desk.specs.Wording.{answer_text}
-use Rattle.desk.proofs.writing.put_answer.Goals as goal
+use Rattle.desk.proofs.said.Said.put_answer.Goals as goal
 
 pub returns-in_ok-put_field-in-Announced-2 : goal.returns-in_ok-put_field-in-Announced-2
 returns-in_ok-put_field-in-Announced-2 c =
@@ -16,7 +16,3 @@ pub returns-in_ok-put_field-in-Delivered-2 : goal.returns-in_ok-put_field-in-Del
 returns-in_ok-put_field-in-Delivered-2 c =
     let number = c.from.ensures ∙ byte c.in-Delivered.delivered.accepted in
     at_arm answer_text c.put-in-Delivered.result _ _ _ c.in-Delivered.is (simp (c.in_ok-put_field-in-Delivered-2.ensures, c.in_ok-put_field-in-Delivered.ensures, number, append_assoc) at c.put-in-Delivered.ensures)
-
-pub returns-in_ok-put_field-in-Advanced-2 : goal.returns-in_ok-put_field-in-Advanced-2
-returns-in_ok-put_field-in-Advanced-2 c =
-    at_arm answer_text c.put-in-Advanced.result _ _ _ c.in-Advanced.is (simp (c.in_ok-put_field-in-Advanced-2.ensures, c.in_ok-put_field-in-Advanced.ensures, append_assoc) at c.put-in-Advanced.ensures)

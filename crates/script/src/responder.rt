@@ -1,0 +1,70 @@
+// What a script is answered, whoever answers its lines.
+ghost use Rattle.std.specs.Prelude.{◌≡◌, ℕ, List, [], IfOk};
+ghost use Rattle.script.specs.Lint.{told, lines, script_answered, Responds};
+ghost use Rattle.text.specs.Shown.{shown, Adds};
+
+use crate::fault::ScriptFault;
+use crate::linter::check_size;
+use crate::split::{Lines, ScriptLine};
+use std::alloc::{AllocError, Global};
+use text::Text;
+
+/// Answers the lines of a script, one after another.
+pub trait Responder {
+    type Answer;
+
+    ghost written: { Self.Answer → List ℕ };
+
+    // The answers to lines, of which the first has this number.
+    ghost answers: { Self → ℕ → List (List ℕ) → List ℕ };
+
+    fn respond(&mut self, line: ScriptLine<'_>) -> Result<Self::Answer, ScriptFault>
+        ensures { Responds written (answers self.old) (answers self.new) line.entry.number line.entry.text.now result };
+
+    /// Adds an answer's text to a text.
+    fn write(answer: Self::Answer, text: Text) -> Result<Text, AllocError>
+        ensures { Adds result text (written answer) };
+
+    ghost none: { (x : Self) (n : ℕ) → answers x n [] ≡ [] };
+}
+
+// The answer, or the fault.
+fn put_answer<R: Responder>(
+    text: Text,
+    answer: Result<R::Answer, ScriptFault>,
+) -> Result<Text, AllocError>
+    ensures { Adds result text (told R.written answer) }
+{
+    match answer {
+        Ok(answer) => R::write(answer, text),
+        Err(fault) => fault.write_to(text),
+    }
+}
+
+fn answer_lines<R: Responder>(
+    mut text: Text,
+    input: &[u8],
+    responder: &mut R,
+) -> Result<Text, AllocError>
+    ensures { Adds result text (R.answers responder.old 1 (lines input.now)) }
+{
+    for line in Lines::new(input) {
+        text = put_answer::<R>(text, responder.respond(line))?.put(b"\n")?;
+    }
+    Ok(text)
+}
+
+/// Answers a whole script line by line, or tells that it is too long.
+pub fn answer<R: Responder>(
+    heap: Global,
+    input: &[u8],
+    responder: &mut R,
+) -> Result<Text, AllocError>
+    ensures { IfOk result (λ t. shown t ≡ script_answered (R.answers responder.old) input.now) }
+{
+    let text = Text::new(heap);
+    match check_size(input) {
+        Ok(()) => answer_lines(text, input, responder),
+        Err(fault) => fault.write_to(text)?.put(b"\n"),
+    }
+}
