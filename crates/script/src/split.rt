@@ -1,7 +1,8 @@
 ghost use Rattle.std.specs.Prelude.{◌≡◌, ◌+◌, ◌^◌, ◌<◌, ◌≤◌, ◌==◌, length, position};
 ghost use Rattle.script.specs.Lint.{line_length, lines};
 
-/// A line of a script, and its number.
+/// A line of a script, and its number. The reader stands below this crate and takes the two one by one: each of its two
+/// functions hands them on once.
 #[derive(Clone, Copy, Debug, PartialEq, Eq)]
 pub struct ScriptLine<'a> {
     pub number: u64,
