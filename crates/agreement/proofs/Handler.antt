@@ -125,6 +125,9 @@ module _ (w : World) (o : ℕ) (M : Step → ℕ → ℕ → Type 0) (b : ℕ) (
       arrives Echo j e = h.echo_more j e
       arrives Ready j e = h.ready_more j e
 
+never : {A : Type 0} → false ≡ true → A
+never e = absurd (both_ways false refl e)
+
 module _ (w : World) (law : Lawful w) (o : ℕ) (M : Step → ℕ → ℕ → Type 0) (k b : ℕ) (r : Rec) where
   hears : (f : ℕ → Option ℕ) (step : Step) → M step k b → (j c : ℕ) → hear f k b j ≡ Some c → (f j ≡ Some c) ⊎ M step j c
   hears f step m j c e = ⊎_elim inl (λ x. inr (subst₂ (λ i d. M step i d) x.0 x.1 m)) (hear_from f k b j c e)
@@ -143,9 +146,6 @@ module _ (w : World) (law : Lawful w) (o : ℕ) (M : Step → ℕ → ℕ → Ty
     echoes_first = never;
   })
     where
-      never : {A : Type 0} → false ≡ true → A
-      never e = absurd (both_ways false refl e)
-
       same : (step : Step) (j c : ℕ) → heard (receive w o Initial k b r) step j ≡ Some c → (heard r step j ≡ Some c) ⊎ M step j c
       same Initial j c e = inl e
       same Echo j c e = inl e
@@ -163,9 +163,6 @@ module _ (w : World) (law : Lawful w) (o : ℕ) (M : Step → ℕ → ℕ → Ty
     echoes_first = λ e. e;
   })
     where
-      never : {A : Type 0} → false ≡ true → A
-      never e = absurd (both_ways false refl e)
-
       test : Bool
       test = leb w.echo (support w (hear r.echo k b) b)
 

@@ -8,15 +8,11 @@ use Rattle.agreement.proofs.Bodies.{has_some, some_has, some_once}
 -- some k below n passes the test, or none does
 pub find : (n : ℕ) (p : ℕ → Bool) → ((k : ℕ) × (k < n) × (p k ≡ true)) ⊎ ((k : ℕ) → k < n → p k ≡ false)
 find zero p = inr (λ k h. absurd (omega arith))
-find (suc n) p = go (cases_Bool (p n)) (find n p)
-  where
-    here : (k : ℕ) → k < suc n → p n ≡ false → ((j : ℕ) → j < n → p j ≡ false) → p k ≡ false
-    here k h e none = ⊎_elim (λ (l : k < n). none k l) (λ (l : n ≤ k). let is : k ≡ n = omega arith in ap p is ∙ e) (cases_lt k n)
-
-    go : ((p n ≡ true) ⊎ (p n ≡ false)) → (((k : ℕ) × (k < n) × (p k ≡ true)) ⊎ ((k : ℕ) → k < n → p k ≡ false)) → ((k : ℕ) × (k < suc n) × (p k ≡ true)) ⊎ ((k : ℕ) → k < suc n → p k ≡ false)
-    go (inl e) r = inl (n, omega arith, e)
-    go (inr e) (inl r) = inl (r.0, omega (arith, r.1), r.2)
-    go (inr e) (inr r) = inr (λ k h. here k h e r)
+find (suc n) p =
+    ⊎_elim (λ (e : p n ≡ true). inl (n, omega arith, e)) (λ (e : p n ≡ false).
+    ⊎_elim (λ r. inl (r.0, omega (arith, r.1), r.2)) (λ none. inr (λ k l.
+    ⊎_elim (none k) (λ (m : n ≤ k). let is : k ≡ n = omega arith in ap p is ∙ e) (cases_lt k n))) (find n p))
+    (cases_Bool (p n))
 
 -- how much the processes weigh that f has with body b, the faulty ones added
 pub backing : World → (ℕ → Option ℕ) → ℕ → ℕ

@@ -10,7 +10,7 @@ use Rattle.protocol.specs.declared.votes.Ballot.TheVariants.{Keep, Release, Prop
 use Rattle.protocol.specs.declared.votes.Kind.{Kind}
 use Rattle.protocol.specs.declared.votes.Kind.TheVariants.{First, Second, Third}
 use Rattle.consensus.specs.Rounds.{ahead, Allows}
-use Rattle.consensus.proofs.Sides.{both_sides}
+use Rattle.consensus.proofs.Sides.{both_sides, keep_ahead, release_ahead}
 use Rattle.ballots.specs.Tallies.{amount}
 use Rattle.ballots.proofs.Counts.{total}
 use Rattle.ballots.specs.Votes.{after, takes}
@@ -58,12 +58,6 @@ module _ {n t : ℕ} {q : Kind} {c : ByBallot ℕ} {b : ℕ} where
       within ProposeRelease = y
       within Open = z
 
-keep_ahead : (x : ByBallot ℕ) → x.release ≤ x.keep → ahead (amount x) ≡ side.Keep
-keep_ahead x l = ap (λ (z : Bool). cond z side.Release side.Keep) (le-ltb _ _ l)
-
-release_ahead : (x : ByBallot ℕ) → x.keep < x.release → ahead (amount x) ≡ side.Release
-release_ahead x l = ap (λ (z : Bool). cond z side.Release side.Keep) (lt-ltb _ _ l)
-
 -- a ballot of number b that is among those that are allowed
 pub record Taken (a : ByBallot Bool) (b : ℕ) : Type 0 where
   pub is : Ballot
@@ -77,12 +71,12 @@ module _ (n t : ℕ) where
       let k = min c.keep (n - t) in
       let many : n - t ≤ c.keep + c.release = grind (arith, nat_tests) in
       let half : n - t ≤ 2 * k = grind (arith, nat_tests) in
-      votes_draw k (n - t - k) (omega arith) (omega arith) (omega arith) (sym (ap (λ v. ballot_number (vote v)) (keep_ahead (some_votes k (n - t - k)) (omega arith))))
+      votes_draw k (n - t - k) (omega arith) (omega arith) (omega arith) (sym (ap (λ v. ballot_number (vote v)) (keep_ahead (amount (some_votes k (n - t - k))) (omega arith))))
   drawn_first c Release e =
       let r = min c.release (n - t) in
       let many : n - t ≤ c.keep + c.release = grind (arith, nat_tests) in
       let half : n - t < 2 * r = grind (arith, nat_tests) in
-      votes_draw (n - t - r) r (omega arith) (omega arith) (omega arith) (sym (ap (λ v. ballot_number (vote v)) (release_ahead (some_votes (n - t - r) r) (omega arith))))
+      votes_draw (n - t - r) r (omega arith) (omega arith) (omega arith) (sym (ap (λ v. ballot_number (vote v)) (release_ahead (amount (some_votes (n - t - r) r)) (omega arith))))
   drawn_first c ProposeKeep e = absurd cc
   drawn_first c ProposeRelease e = absurd cc
   drawn_first c Open e = absurd cc
@@ -159,12 +153,12 @@ module _ (n t : ℕ) where
         behind : d.of.keep < d.of.release → Taken (after n t First c) b
         behind l =
             let w = drawn_from d in
-            record { is = Release; number = d.allows ∙ ap (λ v. ballot_number (vote v)) (release_ahead d.of l); allowed = grind (arith, nat_tests) }
+            record { is = Release; number = d.allows ∙ ap (λ v. ballot_number (vote v)) (release_ahead (amount d.of) l); allowed = grind (arith, nat_tests) }
 
         even : d.of.release ≤ d.of.keep → Taken (after n t First c) b
         even l =
             let w = drawn_from d in
-            record { is = Keep; number = d.allows ∙ ap (λ v. ballot_number (vote v)) (keep_ahead d.of l); allowed = grind (arith, nat_tests) }
+            record { is = Keep; number = d.allows ∙ ap (λ v. ballot_number (vote v)) (keep_ahead (amount d.of) l); allowed = grind (arith, nat_tests) }
 
     taken_second : OfKind Second c → Draw n t Second c b → Taken (after n t Second c) b
     unfolding after

@@ -15,6 +15,13 @@ const NOTHING: Allowed = Allowed {
     open: false,
 };
 
+// A case begins with votes.
+pub(crate) const VOTES: Allowed = Allowed {
+    keep: true,
+    release: true,
+    ..NOTHING
+};
+
 // By the ballots of a round. Rounds count from 0 here.
 #[tactic(auto, unfolding(crate::specs::Votes::after))]
 pub(crate) fn allowed_after(plan: &Plan, round: u64, tally: Tally) -> Allowed

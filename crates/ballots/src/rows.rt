@@ -6,21 +6,13 @@ ghost use Rattle.ballots.specs.Tallies.{Holds};
 ghost use Rattle.ballots.specs.Votes.{sifted};
 ghost use Rattle.ballots.specs.Places.{body_at, ballots_at, covers, valid_at, ValidRow};
 
-use crate::allowing::{allowed_after, sift};
+use crate::allowing::{VOTES, allowed_after, sift};
 use crate::counting::count;
 use crate::tallies::{Allowed, RoundBallots};
 use memory::{Memory, is_within, place_of};
 use plan::Plan;
 use protocol::{PROCESSES, Subject};
 use std::array;
-
-const VOTES: Allowed = Allowed {
-    keep: true,
-    release: true,
-    propose_keep: false,
-    propose_release: false,
-    open: false,
-};
 
 // The valid ballots of a round, the first one being round 1. There are none if the plan has not the process, the case
 // or the round, or if the memory is too small for the plan.

@@ -16,7 +16,7 @@ pub struct ByBallot<T> {
     pub open: T,
 }
 
-// How many of the sixteen places of a row have each ballot.
+// How many of the sixteen places of a row have each ballot. The numbers are narrow, so that their sums fit.
 pub type Tally = ByBallot<u8>;
 
 // Which ballots may stand in the round after.

@@ -1,5 +1,5 @@
 -- Ballots of different sides differ, and the kinds of rounds follow one another.
-use Rattle.std.proofs.Common.{◌≡◌, ℕ, zero, suc, ◌<◌, Bool, cond, refl, ap, arith}
+use Rattle.std.proofs.Common.{◌≡◌, ℕ, zero, suc, ◌<◌, ◌≤◌, Bool, cond, refl, ap, arith}
 use Rattle.std.proofs.lemmas.Bool.{lt-ltb, le-ltb}
 use Rattle.protocol.specs.declared.votes.Side.{Side}
 use Rattle.protocol.specs.declared.votes.Side.TheVariants.{Keep, Release}
@@ -50,9 +50,15 @@ pub not_other : (v : Side) → other v ≡ v → ⊥
 not_other Keep e = cc
 not_other Release e = cc
 
+pub keep_ahead : (count : Ballot → ℕ) → count (vote Release) ≤ count (vote Keep) → ahead count ≡ Keep
+keep_ahead count l = ap (λ (z : Bool). cond z Release Keep) (le-ltb _ _ l)
+
+pub release_ahead : (count : Ballot → ℕ) → count (vote Keep) < count (vote Release) → ahead count ≡ Release
+release_ahead count l = ap (λ (z : Bool). cond z Release Keep) (lt-ltb _ _ l)
+
 pub ahead_is : (count : Ballot → ℕ) (v : Side) → count (vote (other v)) < count (vote v) → ahead count ≡ v
-ahead_is count Keep l = ap (λ (z : Bool). cond z Release Keep) (le-ltb _ _ (omega arith))
-ahead_is count Release l = ap (λ (z : Bool). cond z Release Keep) (lt-ltb _ _ l)
+ahead_is count Keep l = keep_ahead count (omega arith)
+ahead_is count Release l = release_ahead count l
 
 abbrev pub after : Kind → Kind
 after First = Second

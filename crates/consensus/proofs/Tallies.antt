@@ -4,7 +4,7 @@ use Rattle.std.proofs.lemmas.Bool.{both_ways, and_parts, and_from, or_left, or_r
 use Rattle.protocol.specs.declared.votes.Ballot.{Ballot}
 use Rattle.protocol.specs.Counting.{below}
 use Rattle.protocol.specs.Numbers.{ballot_number}
-use Rattle.protocol.proofs.Counting.{below_le}
+use Rattle.protocol.proofs.Counting.{below_le, below_zero}
 use Rattle.agreement.specs.Records.{has}
 use Rattle.agreement.proofs.Bodies.{has_some, some_has, some_once}
 use Rattle.agreement.proofs.Counts.{below_measure}
@@ -13,7 +13,7 @@ use Rattle.consensus.specs.Rounds.{Accepted, tally}
 use Rattle.consensus.specs.Validity.{Valid, Quorum, Correct}
 
 some_below : (n : ℕ) (p : ℕ → Bool) → 0 < below n p → (k : ℕ) × (k < n) × (p k ≡ true)
-some_below n p h = ⊎_elim (λ x. x) (λ none. absurd (omega (arith, (below_measure n).empty, (below_measure n).monotone p (λ _. false) (λ k l e. absurd (both_ways _ (none k l) e))))) (find n p)
+some_below n p h = ⊎_elim (λ x. x) (λ none. absurd (omega (arith, below_zero n p none))) (find n p)
 
 -- two sets that are too large to be apart
 meet : (n : ℕ) (p q : ℕ → Bool) → n < below n p + below n q → (k : ℕ) × (k < n) × (p k ≡ true) × (q k ≡ true)

@@ -43,6 +43,7 @@ same_line l k plan marks = λ i.
     record {
       plan = plan i;
       marks = marks i;
+      state = record {};
       few = is_prop→PathP (λ j. ones (marks j) ≤ (plan j).t) (λ j. le_prop {n = ones (marks j)} {m = (plan j).t}) l.few k.few i;
       inside = is_prop→PathP (λ j. marks j < 2 ^ (plan j).n) (λ j. le_prop {n = suc (marks j)} {m = 2 ^ (plan j).n}) l.inside k.inside i;
     }

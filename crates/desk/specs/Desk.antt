@@ -61,7 +61,7 @@ module _ (plan : Plan) (marks : ℕ) where
   line_if false e = Err MarkRefused
   line_if true e =
       let a = and_parts (nat_le (count_ones marks) plan.t) (nat_lt marks (2 ^ plan.n)) e in
-      Ok record { plan = plan; marks = marks; few = leb-true (count_ones marks) plan.t a.0; inside = ltb-true marks (2 ^ plan.n) a.1 }
+      Ok record { plan = plan; marks = marks; state = record {}; few = leb-true (count_ones marks) plan.t a.0; inside = ltb-true marks (2 ^ plan.n) a.1 }
 
   -- the line with this plan and these marks; the marks of a draft make one
   unfoldable pub line_of : Result Line Refusal

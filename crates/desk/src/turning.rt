@@ -1,12 +1,12 @@
 // The turn that a form asks for.
 ghost use Rattle.std.specs.Prelude.{◌≡◌};
 ghost use Rattle.item.specs.Tags.{tagged};
-ghost use Rattle.form.specs.declared.forms.Form.TheVariants.{Forge};
-ghost use Rattle.desk.specs.Desk.{announcing as announced, asks, asking};
+ghost use Rattle.protocol.specs.Messages.{made};
+ghost use Rattle.desk.specs.Desk.{announcing as announced, forging as forged, asks, asking};
 
 use form::{ForgeForm, Form};
 use item::Tag;
-use protocol::{Message, Refusal};
+use protocol::{Message, Refusal, Step, Subject};
 use runs::Turn;
 
 fn announcing(process: u64, tag: u64) -> Result<Turn<Tag>, Refusal>
@@ -16,10 +16,16 @@ fn announcing(process: u64, tag: u64) -> Result<Turn<Tag>, Refusal>
     Ok(Turn::Announce { process, value })
 }
 
-fn forging(forge: ForgeForm) -> Result<Turn<Tag>, Refusal>
-    ensures { asking result ≡ asks (Forge forge) }
+fn forging(
+    from: u64,
+    to: u64,
+    step: Step,
+    subject: Subject,
+    body: u64,
+) -> Result<Turn<Tag>, Refusal>
+    ensures { asking result ≡ forged (made from to step subject body) }
 {
-    let message = Message::new(forge.from, forge.to, forge.step, forge.subject, forge.body)?;
+    let message = Message::new(from, to, step, subject, body)?;
     Ok(Turn::Forge { message })
 }
 
@@ -39,7 +45,13 @@ pub(crate) fn turn_of(form: Form) -> Result<Turn<Tag>, Refusal>
             case,
             vote,
         }),
-        Form::Forge(forge) => forging(forge),
+        Form::Forge(ForgeForm {
+            from,
+            to,
+            step,
+            subject,
+            body,
+        }) => forging(from, to, step, subject, body),
         Form::Deliver { counter, pick } => Ok(Turn::Deliver {
             process: counter,
             pick,

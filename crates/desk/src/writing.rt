@@ -1,5 +1,6 @@
 // Writing an answer.
-ghost use Rattle.text.specs.Shown.{Adds};
+ghost use Rattle.std.specs.Prelude.{◌≡◌, ◌++◌, IfOk};
+ghost use Rattle.text.specs.Shown.{shown};
 ghost use Rattle.desk.specs.Wording.{answer_text, said_text};
 
 use crate::said::Said;
@@ -8,7 +9,7 @@ use std::alloc::AllocError;
 use text::Text;
 
 fn put_answer(text: Text, answer: Answer) -> Result<Text, AllocError>
-    ensures { Adds result text (answer_text answer) }
+    ensures { IfOk result (λ t. shown t ≡ shown text ++ answer_text answer) }
 {
     match answer {
         Answer::Announced(announced) => text
@@ -30,7 +31,7 @@ fn put_answer(text: Text, answer: Answer) -> Result<Text, AllocError>
 impl Said {
     // Adds the answer's text to a text.
     pub fn write_to(self, text: Text) -> Result<Text, AllocError>
-        ensures { Adds result text (said_text self) }
+        ensures { IfOk result (λ t. shown t ≡ shown text ++ said_text self) }
     {
         match self {
             Said::Opened => text.put(b"(opened)"),

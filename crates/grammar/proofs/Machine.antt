@@ -69,7 +69,7 @@ at_once s at ps l none =
 
 -- no token is not some token
 apart : (p : List ℕ) (o : Option (List ℕ)) → o ≡ None → o ≡ Some p → ⊥
-apart p o a b = let z : ◌≡◌ {A = ℕ} 0 1 = cc in omega arith
+apart p o a b = cc
 
 -- what is left behind a first token
 taken : (fits : List ℕ → Bool) (then : List ℕ → Shape) (p : List ℕ) (ps : List (List ℕ)) (f : Form) → Yields (next fits then) (p ∷ ps) f → Yields (then p) ps f

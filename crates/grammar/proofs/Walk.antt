@@ -1,5 +1,5 @@
 -- One token of a line, and what the grammar's machine does with it.
-use Rattle.std.proofs.Common.{◌≡◌, ℕ, Bool, true, false, cond, ◌&&◌, List, [], ◌∷◌, length, Some, None, Ok, Err, Option, Result, sym, refl, ap, ◌∙◌, subst, arith}
+use Rattle.std.proofs.Common.{◌≡◌, ℕ, Bool, true, false, cond, ◌&&◌, List, [], ◌∷◌, length, Some, None, Ok, Err, Option, Result, sym, refl, ap, ◌∙◌, subst}
 use Rattle.std.specs.Option.{ok_or}
 use Rattle.token.specs.declared.cursor.Cursor.{Cursor}
 use Rattle.token.specs.declared.fault.Place.{Place}
@@ -19,7 +19,7 @@ choice b at p = cond b (Ok (Some p)) (Err (record { place = at }))
 
 -- the answer is a token: it is the first of those left, and lawful
 got_some : (at : Place) (ps : List (List ℕ)) (q : List ℕ) → Ok (Some q) ≡ scanned at ps → (ps ≡ q ∷ behind ps) × (lawful q ≡ true)
-got_some at [] q e = absurd (let z : ◌≡◌ {A = ℕ} 0 1 = cc in omega arith)
+got_some at [] q e = cc
 got_some at (p ∷ ps) q e = go (lawful p) refl
   where
     go : (b : Bool) → lawful p ≡ b → (p ∷ ps ≡ q ∷ ps) × (lawful q ≡ true)
@@ -27,24 +27,24 @@ got_some at (p ∷ ps) q e = go (lawful p) refl
         let told = e ∙ ap (λ b. choice b at p) l in
         let same : p ≡ q = cc in
         ((λ i. same i ∷ ps), ap lawful (sym same) ∙ l)
-    go false l = absurd (let told = e ∙ ap (λ b. choice b at p) l in let z : ◌≡◌ {A = ℕ} 0 1 = cc in omega arith)
+    go false l = let told = e ∙ ap (λ b. choice b at p) l in cc
 
 got_none : (at : Place) (ps : List (List ℕ)) → Ok None ≡ scanned at ps → ps ≡ []
 got_none at [] e = refl
-got_none at (p ∷ ps) e = absurd (go (lawful p) refl)
+got_none at (p ∷ ps) e = go (lawful p) refl
   where
-    go : (b : Bool) → lawful p ≡ b → ⊥
-    go true l = let told = e ∙ ap (λ b. choice b at p) l in let z : ◌≡◌ {A = ℕ} 0 1 = cc in omega arith
-    go false l = let told = e ∙ ap (λ b. choice b at p) l in let z : ◌≡◌ {A = ℕ} 0 1 = cc in omega arith
+    go : (b : Bool) → lawful p ≡ b → p ∷ ps ≡ []
+    go true l = let told = e ∙ ap (λ b. choice b at p) l in cc
+    go false l = let told = e ∙ ap (λ b. choice b at p) l in cc
 
 -- it is a fault: the first token is not lawful, and no shape takes it
 pub pull_fault : (at : Place) (ps : List (List ℕ)) (e : TokenFault) → Err e ≡ scanned at ps → (s : Shape) → run s at ps ≡ Err (Token e)
 unfolding run
-pull_fault at [] e h s = absurd (let z : ◌≡◌ {A = ℕ} 0 1 = cc in omega arith)
+pull_fault at [] e h s = cc
 pull_fault at (p ∷ ps) e h s = go (lawful p) refl s
   where
     go : (b : Bool) → lawful p ≡ b → (s : Shape) → run s at (p ∷ ps) ≡ Err (Token e)
-    go true l s = absurd (let told = h ∙ ap (λ b. choice b at p) l in let z : ◌≡◌ {A = ℕ} 0 1 = cc in omega arith)
+    go true l s = let told = h ∙ ap (λ b. choice b at p) l in cc
     go false l (done f) =
         let told = h ∙ ap (λ b. choice b at p) l in
         let same : e ≡ record { place = at } = cc in
@@ -72,22 +72,19 @@ end_some at ps f q e = ap (run (done f) at) (got_some at ps q e).0 ∙ ap (λ b.
 
 -- the same of a cursor: o is what its next token was, and a token is told with its place
 pub pulled : (c d : Cursor) (o : Option Lexeme) (at : Place) (t : Lexeme) → spelled (Ok o) ≡ scanned (here c) (left c) → Apt (Ok o) → here d ≡ onward (here c) (taken (Ok o)) → left d ≡ remaining (Ok o) (left c) → at ≡ here c → ok_or o (Unexpected at) ≡ Ok t → Pulled c d (Ok (record { token = t; place = at }))
-pulled c d None at t value kind place tokens is h = absurd (let z : ◌≡◌ {A = ℕ} 0 1 = cc in omega arith)
+pulled c d None at t value kind place tokens is h = cc
 pulled c d (Some u) at t value kind place tokens is h =
     let same : u ≡ t = cc in
     subst (λ x. Pulled c d (Ok (record { token = x; place = at }))) same (is, (kind, λ fits then. pull_some (here c) (left c) (spelling u) fits then value ∙ (λ i. cond (fits (spelling u)) (run (then (spelling u)) (sym place i) (sym tokens i)) (Err (Unexpected (sym is i))))))
 
 pub missed : (c : Cursor) (o : Option Lexeme) (at : Place) (e : FormFault) → spelled (Ok o) ≡ scanned (here c) (left c) → at ≡ here c → ok_or o (Unexpected at) ≡ Err e → (fits : List ℕ → Bool) (then : List ℕ → Shape) → run (next fits then) (here c) (left c) ≡ Err e
 missed c None at e value is h = let same : Unexpected at ≡ e = cc in λ fits then. pull_none (here c) (left c) fits then value ∙ (ap (λ p. Err (Unexpected p)) (sym is) ∙ ap Err same)
-missed c (Some u) at e value is h = absurd (let z : ◌≡◌ {A = ℕ} 0 1 = cc in omega arith)
-
-after_none : (c : Cursor) (o : Option Lexeme) → o ≡ None → spelled (Ok o) ≡ scanned (here c) (left c) → Ok None ≡ scanned (here c) (left c)
-after_none c None e value = value
-after_none c (Some u) e value = absurd (let z : ◌≡◌ {A = ℕ} 0 1 = cc in omega arith)
+missed c (Some u) at e value is h = cc
 
 pub ends_none : (c : Cursor) (o : Option Lexeme) (f : Form) → o ≡ None → spelled (Ok o) ≡ scanned (here c) (left c) → Ends c f (Ok f)
-ends_none c o f e value = end_none (here c) (left c) f (after_none c o e value)
+ends_none c None f e value = end_none (here c) (left c) f value
+ends_none c (Some u) f e value = cc
 
 pub ends_some : (c : Cursor) (o : Option Lexeme) (t : Lexeme) (f : Form) (at : Place) → o ≡ Some t → spelled (Ok o) ≡ scanned (here c) (left c) → at ≡ here c → Ends c f (Err (Unexpected at))
-ends_some c None t f at e value is = absurd (let z : ◌≡◌ {A = ℕ} 0 1 = cc in omega arith)
+ends_some c None t f at e value is = cc
 ends_some c (Some u) t f at e value is = end_some (here c) (left c) f (spelling u) value ∙ ap (λ p. Err (Unexpected p)) (sym is)

@@ -1,16 +1,19 @@
 -- Messages that are posted one after another. Assumes nothing.
-use Rattle.std.proofs.Common.{◌≡◌, ℕ, zero, suc, ◌+◌, ◌<◌, ◌≤◌, Bool, true, false, List, [], ◌∷◌, ◌++◌, length, Ok, sym, refl, ap, ◌∙◌, subst, add-one, arith, length-append}
+use Rattle.std.proofs.Common.{◌≡◌, ℕ, zero, suc, ◌+◌, ◌<◌, ◌≤◌, Bool, true, false, cond, List, [], ◌∷◌, ◌++◌, length, Ok, Err, Result, sym, refl, ap, ◌∙◌, subst, add-one, arith, length-append}
 use Rattle.std.proofs.lemmas.List.{append-nil, append_assoc}
+use Rattle.std.specs.Result.{IsOk}
 use Rattle.protocol.specs.Bags.{Same}
 use Rattle.protocol.specs.Messages.{message, made}
 use Rattle.protocol.specs.Sending.{to_all}
 use Rattle.protocol.specs.declared.messages.Message.{Message}
 use Rattle.protocol.specs.declared.messages.Step.{Step}
 use Rattle.protocol.specs.declared.messages.Subject.{Subject}
+use Rattle.protocol.specs.declared.refusals.Refusal.{Refusal}
 use Rattle.protocol.proofs.Bags.{count_none, count_cons, count_append, same_refl, same_length}
 use Rattle.protocol.proofs.Parts.{made_within}
 use Rattle.carrier.specs.Posting.{Posts, none, more}
-use Rattle.line.specs.Sent.{Sent, passed_on}
+use Rattle.carrier.specs.Waiting.{Posted}
+use Rattle.line.specs.Sent.{Sent}
 
 module _ (i : ℕ) (step : Step) (s : Subject) (b : ℕ) where
   to_none : to_all 0 i step s b ≡ []
@@ -69,7 +72,12 @@ module _ {C : Type 0} (waiting : C → List Message) (capacity : C → ℕ) (pos
   pub sent_length : (x y : C) (ms : List Message) → Sent waiting capacity posting x ms y → length (waiting y) ≡ length ms + length (waiting x)
   sent_length x y ms sent = same_length _ _ sent.same ∙ length-append ms (waiting x)
 
--- passing a message on posts n messages or none
-pub passed_le : (due : Bool) (n : ℕ) (m : Message) (step : Step) → length (passed_on due n m step) ≤ n
-passed_le true n m step = omega (arith, to_length m.addressee step m.subject m.body n)
-passed_le false n m step = omega arith
+-- what is sent where it is due
+pub due_le : (due : Bool) (n i : ℕ) (step : Step) (s : Subject) (b : ℕ) → length (cond due (to_all n i step s b) []) ≤ n
+due_le true n i step s b = omega (arith, to_length i step s b n)
+due_le false n i step s b = omega arith
+
+-- a carrier with room does not refuse a message
+pub post_ok : (r : Result (Unit {0}) Refusal) (m : Message) (capacity : ℕ) (before after : List Message) → Posted r m capacity before after → length before < capacity → IsOk r
+post_ok (Ok x) m capacity before after posted room = refl
+post_ok (Err e) m capacity before after posted room = absurd (omega (arith, posted.full))

@@ -1,6 +1,7 @@
 -- What the first tests of a call answer. Assumes nothing.
 use Rattle.std.specs.Prelude.{◌≡◌, ℕ, ◌-◌, ◌*◌, ◌<◌, ◌≤◌, Bool, true, false, not, ◌||◌, List, length, Some, None, Ok, Err, Option, Result, nat_le, nat_lt}
 use Rattle.protocol.specs.declared.messages.Message.{Message}
+use Rattle.protocol.specs.declared.messages.Subject.{Subject}
 use Rattle.protocol.specs.declared.refusals.Refusal.{Refusal}
 use Rattle.protocol.specs.declared.refusals.Refusal.TheVariants.{MemoryTooSmall, ProcessOutOfRange, WrongRole, NothingWaiting, NoRoom}
 use Rattle.plan.specs.Kinds.{Line}
@@ -32,10 +33,11 @@ abbrev pub Roomy : Result (Unit {0}) Refusal → Line → ℕ → ℕ → List M
 Roomy (Ok _) line i capacity ws = (faulty line i || nat_le (2 * line.plan.n) (capacity - length ws)) ≡ true
 Roomy (Err e) line i capacity ws = unless (nat_le 1 (waiting_for i ws)) NothingWaiting (unless (faulty line i || nat_le (2 * line.plan.n) (capacity - length ws)) NoRoom None) ≡ Some e
 
--- there is room for the ballot of the round after this one, unless this one is the last
-abbrev pub spacious : Line → ℕ → ℕ → List Message → Bool
-spacious line round capacity ws = nat_le (3 * line.plan.phases) round || nat_le line.plan.n (capacity - length ws)
+-- there is room for the next ballot, if there is one
+abbrev pub spacious : Line → Option Subject → ℕ → List Message → Bool
+spacious line None capacity ws = true
+spacious line (Some s) capacity ws = nat_le line.plan.n (capacity - length ws)
 
-abbrev pub Spacious : Result (Unit {0}) Refusal → Line → ℕ → ℕ → List Message → Type 0
-Spacious (Ok _) line round capacity ws = spacious line round capacity ws ≡ true
-Spacious (Err e) line round capacity ws = (e ≡ NoRoom) × (spacious line round capacity ws ≡ false)
+abbrev pub Spacious : Result (Unit {0}) Refusal → Line → Option Subject → ℕ → List Message → Type 0
+Spacious (Ok _) line next capacity ws = spacious line next capacity ws ≡ true
+Spacious (Err e) line next capacity ws = (e ≡ NoRoom) × (spacious line next capacity ws ≡ false)

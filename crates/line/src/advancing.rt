@@ -1,19 +1,20 @@
 // Advancing in a case.
-ghost use Rattle.std.specs.Prelude.{◌≡◌, ◌+◌, ◌<◌, true, length};
+ghost use Rattle.std.specs.Prelude.{◌≡◌, ◌+◌, ◌<◌, true, length, IfSome};
+ghost use Rattle.protocol.specs.Messages.{originator_of};
 ghost use Rattle.memory.specs.Contents.{held};
 ghost use Rattle.rules.specs.Answers.{Advancement};
-ghost use Rattle.rules.specs.Turns.{said, settled, ballots};
+ghost use Rattle.rules.specs.Turns.{said, settled};
 ghost use Rattle.line.specs.Checks.{spacious, Spacious};
-ghost use Rattle.line.specs.Sent.{Sent};
+ghost use Rattle.line.specs.Sent.{Sent, subject_after, sent_for};
 
-use crate::checks::{check_correct, check_room, find_case};
-use crate::sending::send_to_all;
+use crate::checks::{check_correct, check_room_for_all, find_case};
+use crate::sending::send_initials;
 use carrier::Carrier;
 use cases::next_step;
 use coin::Coin;
 use memory::{CaseRecord, Decision, Memory};
 use plan::Line;
-use protocol::{Ballot, Refusal, Side, Step, Subject};
+use protocol::{Ballot, Refusal, Side, Subject};
 use rules::Advanced;
 
 // A correct process goes on to the next round of a case, by the valid ballots of the lowest originators. Where a third
@@ -34,23 +35,41 @@ pub fn advance<C: Carrier, K: Coin>(
     let step = next_step(&line.plan(), memory, process, case).ok_or(Refusal::MayNotAdvance)?;
     let record = memory.case_record(at);
     let round = u64::from(record.round);
-    check_room_after(line, carrier, round)?;
+    let next = subject_after(line, process, case, round);
+    check_room_for_next(line, carrier, next)?;
     let phase = record.round / 3;
     memory.set_case_record(at, moved(record, step.decides, phase));
     let ballot = said(step.next, coin, process as u8, case as u8, phase);
-    let posted = send_next(line, carrier, process, case, round, ballot);
+    let posted = send_next(line, carrier, next, ballot);
     Ok(Advanced {
         round: round + 1,
         posted,
     })
 }
 
-// Before the last round there has to be room for the next ballot.
-fn check_room_after<C: Carrier>(line: &Line, carrier: &C, round: u64) -> Result<(), Refusal>
-    ensures { Spacious result line.now round (C.Carrier.capacity carrier.now) (C.Carrier.waiting carrier.now) }
+// What a process sends its ballot of the next round for: nothing after the last round.
+fn subject_after(line: &Line, process: u64, case: u64, round: u64) -> Option<Subject>
+    requires { round < 255 }
+    ensures { result ≡ subject_after line.now process case round }
 {
-    if round < 3 * line.plan().phases() {
-        check_room(line, carrier)?;
+    let has_next = round < line.plan().rounds();
+    has_next.then(|| Subject::Ballot {
+        originator: process,
+        case,
+        round: round + 1,
+    })
+}
+
+// There has to be room for the next ballot, if there is one.
+fn check_room_for_next<C: Carrier>(
+    line: &Line,
+    carrier: &C,
+    next: Option<Subject>,
+) -> Result<(), Refusal>
+    ensures { Spacious result line.now next (C.Carrier.capacity carrier.now) (C.Carrier.waiting carrier.now) }
+{
+    if next.is_some() {
+        check_room_for_all(line, carrier)?;
     }
     Ok(())
 }
@@ -77,34 +96,15 @@ fn said<K: Coin>(next: Option<Ballot>, coin: &K, process: u8, case: u8, phase: u
     next.unwrap_or_else(|| Ballot::vote(coin.toss(process, case, phase)))
 }
 
-// Sends the ballot of the round after this one, unless this one is the last.
-fn send_next<C: Carrier>(
-    line: &Line,
-    carrier: &mut C,
-    process: u64,
-    case: u64,
-    round: u64,
-    ballot: Ballot,
-) -> u64
-    requires process { process < 16 }
-    requires room { spacious line.now round (C.Carrier.capacity carrier.old) (C.Carrier.waiting carrier.old) ≡ true }
-    ensures sent { Sent C.Carrier.waiting C.Carrier.capacity C.Carrier.posting carrier.old (ballots line.now process case round ballot) carrier.new }
-    ensures count { result ≡ length (ballots line.now process case round ballot) }
+// Sends the next ballot, if there is one.
+fn send_next<C: Carrier>(line: &Line, carrier: &mut C, next: Option<Subject>, ballot: Ballot) -> u64
+    requires sender { IfSome next (λ s. originator_of s < 16) }
+    requires room { spacious line.now next (C.Carrier.capacity carrier.old) (C.Carrier.waiting carrier.old) ≡ true }
+    ensures sent { Sent C.Carrier.waiting C.Carrier.capacity C.Carrier.posting carrier.old (sent_for line.now next ballot) carrier.new }
+    ensures count { result ≡ length (sent_for line.now next ballot) }
 {
-    if round >= 3 * line.plan().phases() {
-        return 0;
+    match next {
+        Some(subject) => send_initials(line, carrier, subject, ballot.number()),
+        None => 0,
     }
-    let subject = Subject::Ballot {
-        originator: process,
-        case,
-        round: round + 1,
-    };
-    send_to_all(
-        line,
-        carrier,
-        process,
-        Step::Initial,
-        subject,
-        ballot.number(),
-    )
 }

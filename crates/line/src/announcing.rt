@@ -5,16 +5,17 @@ ghost use Rattle.memory.specs.Contents.{held};
 ghost use Rattle.rules.specs.Turns.{initials};
 ghost use Rattle.rules.specs.Answers.{Announcement};
 
-use crate::checks::{check_correct, check_room};
-use crate::sending::send_to_all;
+use crate::checks::{check_correct, check_room_for_all};
+use crate::sending::send_initials;
 use carrier::Carrier;
 use item::Item;
 use memory::Memory;
 use plan::Line;
-use protocol::{Refusal, Step, Subject};
+use protocol::{Refusal, Subject};
 use rules::Announced;
 
-// A correct process sends the value to all under its next serial.
+// A correct process sends the value to all under its next serial. That the capacity is kept stands beside what a turn answers, here
+// and in the other four: it holds whatever the answer is, and would be one more argument of each relation.
 pub fn announce<C: Carrier, I: Item>(
     line: &Line,
     memory: &mut Memory,
@@ -31,13 +32,13 @@ pub fn announce<C: Carrier, I: Item>(
     if u64::from(serial) >= line.plan().serials() {
         return Err(Refusal::SerialsUsedUp);
     }
-    check_room(line, carrier)?;
+    check_room_for_all(line, carrier)?;
     memory.set_next_serial(process as usize, serial + 1);
     let serial = u64::from(serial);
     let subject = Subject::Item {
         originator: process,
         serial,
     };
-    let posted = send_to_all(line, carrier, process, Step::Initial, subject, value.pack());
+    let posted = send_initials(line, carrier, subject, value.pack());
     Ok(Announced { serial, posted })
 }

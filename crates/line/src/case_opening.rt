@@ -7,12 +7,12 @@ ghost use Rattle.carrier.specs.Posting.{Posts};
 ghost use Rattle.memory.specs.Contents.{held};
 ghost use Rattle.rules.specs.Answers.{CaseOpening};
 
-use crate::checks::{check_correct, check_room, find_case};
-use crate::sending::send_to_all;
+use crate::checks::{check_correct, check_room_for_all, find_case};
+use crate::sending::send_initials;
 use carrier::Carrier;
 use memory::{CaseRecord, Memory};
 use plan::Line;
-use protocol::{Refusal, Step, Subject};
+use protocol::{Refusal, Subject};
 
 // A correct process votes in the first round of a case: 0 is keep, 1 release. The vote is a number, as a script can hold it, and
 // any other is refused. Answers how many messages were posted.
@@ -37,12 +37,12 @@ pub fn open_case<C: Carrier>(
     if record.round != 0 {
         return Err(Refusal::CaseAlreadyOpened);
     }
-    check_room(line, carrier)?;
+    check_room_for_all(line, carrier)?;
     memory.set_case_record(at, CaseRecord { round: 1, ..record });
     let subject = Subject::Ballot {
         originator: process,
         case,
         round: 1,
     };
-    Ok(send_to_all(line, carrier, process, Step::Initial, subject, vote))
+    Ok(send_initials(line, carrier, subject, vote))
 }

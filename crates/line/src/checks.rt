@@ -46,7 +46,7 @@ pub fn find_case(line: &Line, process: u64, case: u64) -> Result<usize, Refusal>
 }
 
 // Refused where the carrier has no room for a message to each process.
-pub(crate) fn check_room<C: Carrier>(line: &Line, carrier: &C) -> Result<(), Refusal>
+pub(crate) fn check_room_for_all<C: Carrier>(line: &Line, carrier: &C) -> Result<(), Refusal>
     ensures { RoomForAll result line.now (C.Carrier.capacity carrier.now) (C.Carrier.waiting carrier.now) }
 {
     if u64::from(carrier.free()) < line.plan().n() {

@@ -7,7 +7,7 @@ ghost use Rattle.line.specs.Checks.{Roomy};
 ghost use Rattle.line.specs.Sent.{Sent};
 
 use crate::checks::check_process;
-use crate::sending::send_if;
+use crate::sending::pass_on;
 use broadcast::{Reaction, receive};
 use carrier::Carrier;
 use memory::Memory;
@@ -27,7 +27,7 @@ pub fn deliver<C: Carrier>(
     ensures kept { C.Carrier.capacity carrier.new ≡ C.Carrier.capacity carrier.old }
 {
     check_process(line, memory, process)?;
-    check_room(line, carrier, process)?;
+    check_room_for_replies(line, carrier, process)?;
     let message = carrier.take(process, pick)?;
     if line.is_faulty(process) {
         return Ok(Delivered {
@@ -44,7 +44,7 @@ pub fn deliver<C: Carrier>(
 }
 
 // A correct process may have to send to all twice. Only where room for that is missing is it asked whether a message waits at all.
-fn check_room<C: Carrier>(line: &Line, carrier: &C, process: u64) -> Result<(), Refusal>
+fn check_room_for_replies<C: Carrier>(line: &Line, carrier: &C, process: u64) -> Result<(), Refusal>
     ensures { Roomy result line.now process (C.Carrier.capacity carrier.now) (C.Carrier.waiting carrier.now) }
 {
     if line.is_faulty(process) || u64::from(carrier.free()) >= 2 * line.plan().n() {
@@ -62,7 +62,12 @@ fn reply<C: Carrier>(line: &Line, carrier: &mut C, message: &Message, reaction: 
     ensures sent { Sent C.Carrier.waiting C.Carrier.capacity C.Carrier.posting carrier.old (replies line.now.plan.n message.now reaction) carrier.new }
     ensures count { result ≡ length (replies line.now.plan.n message.now reaction) }
 {
-    let echoes = send_if(reaction.echo, line, carrier, message, Step::Echo);
-    let readies = send_if(reaction.ready, line, carrier, message, Step::Ready);
-    echoes + readies
+    let mut posted = 0;
+    if reaction.echo {
+        posted += pass_on(line, carrier, message, Step::Echo);
+    }
+    if reaction.ready {
+        posted += pass_on(line, carrier, message, Step::Ready);
+    }
+    posted
 }

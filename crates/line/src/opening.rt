@@ -7,7 +7,8 @@ use memory::Memory;
 use plan::{Draft, Line};
 use protocol::Refusal;
 
-// Clears the memory and makes the draft a line. A refusal gives the draft back.
+// Clears the memory and makes the draft a line. A refusal gives the draft back: a pair, as Rust's own calls give a value back with
+// an error, and one pattern takes it apart.
 pub fn open_line<C: Carrier>(
     draft: Draft,
     memory: &mut Memory,

@@ -1,14 +1,54 @@
 // Sending to all processes of a line.
 ghost use Rattle.std.specs.Prelude.{◌≡◌, ◌+◌, ◌<◌, ◌≤◌, length};
+ghost use Rattle.protocol.specs.Messages.{originator_of};
 ghost use Rattle.protocol.specs.Sending.{to_all};
-ghost use Rattle.line.specs.Sent.{Sent, passed_on};
+ghost use Rattle.protocol.specs.declared.messages.Step.TheVariants.{Initial};
+ghost use Rattle.line.specs.Sent.{Sent};
 
 use carrier::Carrier;
 use plan::Line;
 use protocol::{Message, Step, Subject};
 
-// Posts a message to each process of the line, and answers how many these are. There is room for them.
-pub(crate) fn send_to_all<C: Carrier>(
+// The originator of a subject sends its body to all. Answers how many messages these are, as the next two do.
+pub(crate) fn send_initials<C: Carrier>(
+    line: &Line,
+    carrier: &mut C,
+    subject: Subject,
+    body: u64,
+) -> u64
+    requires sender { originator_of subject < 16 }
+    requires room { length (C.Carrier.waiting carrier.old) + line.now.plan.n ≤ C.Carrier.capacity carrier.old }
+    ensures sent { Sent C.Carrier.waiting C.Carrier.capacity C.Carrier.posting carrier.old (to_all line.now.plan.n (originator_of subject) Initial subject body) carrier.new }
+    ensures count { result ≡ length (to_all line.now.plan.n (originator_of subject) Initial subject body) }
+{
+    let sender = subject.originator();
+    send_to_all(line, carrier, sender, Step::Initial, subject, body)
+}
+
+// The addressee of a message sends the message's body on to all, in the given step.
+pub(crate) fn pass_on<C: Carrier>(
+    line: &Line,
+    carrier: &mut C,
+    message: &Message,
+    step: Step,
+) -> u64
+    requires room { length (C.Carrier.waiting carrier.old) + line.now.plan.n ≤ C.Carrier.capacity carrier.old }
+    ensures sent { Sent C.Carrier.waiting C.Carrier.capacity C.Carrier.posting carrier.old (to_all line.now.plan.n message.now.addressee step message.now.subject message.now.body) carrier.new }
+    ensures count { result ≡ length (to_all line.now.plan.n message.now.addressee step message.now.subject message.now.body) }
+{
+    send_to_all(
+        line,
+        carrier,
+        message.addressee(),
+        step,
+        message.subject(),
+        message.body(),
+    )
+}
+
+// Posts a message to each process of the line, where there is room for them. Sender, step, subject and body are no struct: only
+// the two above hand them on.
+fn send_to_all<C: Carrier>(
     line: &Line,
     carrier: &mut C,
     sender: u64,
@@ -23,37 +63,8 @@ pub(crate) fn send_to_all<C: Carrier>(
 {
     let n = line.plan().n();
     for addressee in 0..n {
-        let Ok(message) = Message::new(sender, addressee, step, subject, body) else {
-            unreachable()
-        };
-        let Ok(()) = carrier.post(message) else {
-            unreachable()
-        };
+        let message = Message::new(sender, addressee, step, subject, body).unwrap();
+        carrier.post(message).unwrap();
     }
     n
-}
-
-// Where it is due, the addressee of a message sends the message's body on, in the given step.
-pub(crate) fn send_if<C: Carrier>(
-    due: bool,
-    line: &Line,
-    carrier: &mut C,
-    message: &Message,
-    step: Step,
-) -> u64
-    requires room { length (C.Carrier.waiting carrier.old) + line.now.plan.n ≤ C.Carrier.capacity carrier.old }
-    ensures sent { Sent C.Carrier.waiting C.Carrier.capacity C.Carrier.posting carrier.old (passed_on due line.now.plan.n message.now step) carrier.new }
-    ensures count { result ≡ length (passed_on due line.now.plan.n message.now step) }
-{
-    if !due {
-        return 0;
-    }
-    send_to_all(
-        line,
-        carrier,
-        message.addressee(),
-        step,
-        message.subject(),
-        message.body(),
-    )
 }

@@ -1,8 +1,7 @@
-// What reading answers. The function stands in `methods`, since a clause there may cite definitions that name the type.
-pub mod methods;
+// What reading answers. The function stands in the crate's root, since its clauses cite definitions that name the type.
 
 // Three answers, as the rules have them: neither of the first two is a refusal.
-#[derive(Drop)]
+#[derive(Clone, Copy, Debug, Drop, PartialEq, Eq)]
 pub enum Reading<I> {
     // The process has accepted no body.
     Nothing,

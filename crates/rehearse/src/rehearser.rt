@@ -1,5 +1,5 @@
-ghost use Rattle.std.specs.Prelude.{◌≡◌, IfOk};
-ghost use Rattle.text.specs.Shown.{shown, Adds};
+ghost use Rattle.std.specs.Prelude.{◌≡◌, ◌++◌, IfOk};
+ghost use Rattle.text.specs.Shown.{shown};
 ghost use Rattle.desk.specs.Desk.{state, places};
 ghost use Rattle.script.specs.Lint.{lines};
 ghost use Rattle.rehearse.specs.Rehearsed.{reply_text, reply, replies, answers, at_start, rehearsed};
@@ -22,7 +22,7 @@ fn reply_to(desk: &mut Desk, number: u64, line: &[u8]) -> Result<Said, ScriptFau
 }
 
 fn put_reply(text: Text, reply: Result<Said, ScriptFault>) -> Result<Text, AllocError>
-    ensures { Adds result text (reply_text reply) }
+    ensures { IfOk result (λ t. shown t ≡ shown text ++ reply_text reply) }
 {
     match reply {
         Ok(said) => said.write_to(text),
@@ -31,7 +31,7 @@ fn put_reply(text: Text, reply: Result<Said, ScriptFault>) -> Result<Text, Alloc
 }
 
 fn rehearse_lines(mut text: Text, input: &[u8], desk: &mut Desk) -> Result<Text, AllocError>
-    ensures { Adds result text (answers (places desk.old) 1 (state desk.old) (lines input.now)) }
+    ensures { IfOk result (λ t. shown t ≡ shown text ++ answers (places desk.old) 1 (state desk.old) (lines input.now)) }
 {
     for (number, line) in Lines::new(input) {
         text = put_reply(text, reply_to(desk, number, line))?.put(b"\n")?;
@@ -41,7 +41,7 @@ fn rehearse_lines(mut text: Text, input: &[u8], desk: &mut Desk) -> Result<Text,
 
 // With a memory for five processes and an empty basket.
 fn rehearse_anew(text: Text, input: &[u8]) -> Result<Text, AllocError>
-    ensures { Adds result text (answers 400 1 at_start (lines input.now)) }
+    ensures { IfOk result (λ t. shown t ≡ shown text ++ answers 400 1 at_start (lines input.now)) }
 {
     let subject = Subject::Item {
         originator: 0,

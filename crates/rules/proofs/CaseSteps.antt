@@ -1,16 +1,16 @@
 -- Opening a case and advancing tell a ballot in the machine of broadcasts; asides leave it where it is.
 use Rattle.std.proofs.Common.{◌≡◌, ℕ, suc, ◌+◌, ◌-◌, ◌*◌, ◌/◌, ◌<◌, ◌≤◌, true, false, ◌&&◌, eqb, ltb, List, [], ◌∷◌, ◌++◌, length, get_or, Some, None, Option, sym, refl, ap, ◌∙◌, subst, ap₂, subst₂, ⊎_elim, arith}
 use Rattle.std.proofs.lemmas.Bool.{eqb-true, and_parts, ltb-true, ltb-false, cond-true, cond-false, cases_Bool}
-use Rattle.protocol.specs.Bags.{Same}
+use Rattle.protocol.specs.Bags.{count, Same}
 use Rattle.protocol.specs.Numbers.{ballot_number}
 use Rattle.protocol.specs.Sending.{to_all}
 use Rattle.agreement.specs.Runs.{same_subject}
 use Rattle.protocol.specs.declared.messages.Message.{Message}
 use Rattle.protocol.specs.declared.messages.Step.TheVariants.{Initial}
-use Rattle.protocol.specs.declared.messages.Subject.TheVariants.{Ballot}
+use Rattle.protocol.specs.declared.messages.Subject.{Subject}
+use Rattle.protocol.specs.declared.messages.Subject.TheVariants.{Item, Ballot}
 use Rattle.protocol.specs.declared.votes.Side.{Side}
 use Rattle.agreement.proofs.Bodies.{none_some}
-use Rattle.protocol.proofs.Bags.{count_append}
 use Rattle.plan.specs.Kinds.{Line}
 use Rattle.memory.specs.Contents.{Held, silent, case_at}
 use Rattle.memory.specs.Places.{place, case_place}
@@ -30,8 +30,8 @@ use Rattle.rules.proofs.Stages.{Shown}
 use Rattle.rules.proofs.Records.{Rows}
 use Rattle.rules.proofs.Cases.{CaseShown, Tale, same_tale, carried, all_carried, case_opened, case_advanced}
 use Rattle.rules.proofs.Ballots.{same_ballots, moved_here, moved_other, moved_large, said_other, said_round, opened_elsewhere, advanced_elsewhere}
-use Rattle.rules.proofs.Shows.{Shows, as_large, items_on, bodies_on, stranger, OpenAllowed, open_allowed, AdvanceAllowed, advance_allowed, no_stranger}
-use Rattle.rules.proofs.Follows.{Follow, joined_all}
+use Rattle.rules.proofs.Shows.{Shows, Mirrors, as_large, items_on, bodies_on, stranger, OpenAllowed, open_allowed, AdvanceAllowed, advance_allowed}
+use Rattle.rules.proofs.Follows.{Follow, joined_all, known_told}
 
 module _ (line : Line) (capacity : ℕ) (coin : Coin) (es : List Event) (h : Held) (ws : List Message) (st : State) (shows : Shows line coin es h ws st) where
   -- a ballot is said in a case of process i, or only its record changes
@@ -41,6 +41,15 @@ module _ (line : Line) (capacity : ℕ) (coin : Coin) (es : List Event) (h : Hel
     each later next now here there j d l b =
         ⊎_elim (λ (e : (eqb j i && eqb d c) ≡ true). let same = and_parts _ _ e in subst₂ (CaseShown line coin later next now) (sym (eqb-true j i same.0)) (sym (eqb-true d c same.1)) here) (λ (e : (eqb j i && eqb d c) ≡ false). there j d e l b)
         (cases_Bool (eqb j i && eqb d c))
+
+    mirrored : (round : ℕ) (decision : Option Decision) (told : Subject → Option ℕ) (waiting left : List Message) → ((j k : ℕ) → told (Item j k) ≡ st.said (Item j k)) → Same waiting left → count (stranger line) left ≡ 0 → Mirrors line (moved line i c round decision h) left (record { recs = st.recs; said = told; waiting = waiting })
+    mirrored round decision told waiting left same waits known = record {
+      large = moved_large line h shows.mirrors.large i c round decision lt below;
+      records = λ j s l w. let kept = shows.mirrors.records j s l w in record { stage = kept.stage; rows = kept.rows };
+      fresh = λ j k l used. same j k ∙ shows.mirrors.fresh j k l used;
+      waits = waits;
+      known = known;
+    }
 
     -- another case, where the record of this one is written
     apart : (later : List Event) (round : ℕ) (decision : Option Decision) (now : State) (j d : ℕ) → (eqb j i && eqb d c) ≡ false → j < line.plan.n → d < line.plan.cases → Tale es later j d → ((q : ℕ) → now.said (Ballot j d q) ≡ st.said (Ballot j d q)) → CaseShown line coin later (moved line i c round decision h) now j d
@@ -74,13 +83,7 @@ module _ (line : Line) (capacity : ℕ) (coin : Coin) (es : List Event) (h : Hel
           open_state,
           λ run. machine.after run (machine.tell (Ballot i c 1) v left (open_may.process, open_may.correct) open_none (joined_all line capacity coin es h ws st shows line.plan.n i Initial (Ballot i c 1) v left d.carrier)),
           subst (λ x. Shows line coin (opened i c v posted ∷ es) x left open_state) (sym d.memory) (record {
-            mirrors = record {
-              large = moved_large line h shows.mirrors.large i c 1 _ open_may.process open_may.case;
-              records = λ j s l w. let kept = shows.mirrors.records j s l w in record { stage = kept.stage; rows = kept.rows };
-              fresh = shows.mirrors.fresh;
-              waits = λ p. refl;
-              known = omega (arith, d.carrier (stranger line), count_append (stranger line) (to_all line.plan.n i Initial (Ballot i c 1) v) ws, no_stranger line line.plan.n i Initial (Ballot i c 1) v open_may.process inside, shows.mirrors.known);
-            };
+            mirrors = mirrored i c open_may.process open_may.case 1 _ open_state.said left left (λ j k. refl) (λ p. refl) (known_told line capacity coin es h ws st shows i (Ballot i c 1) v left open_may.process inside d.carrier);
             items = items_on (opened i c v posted) es st open_state (λ j k b x. x) (λ j k. refl) shows.items;
             bodies = bodies_on line (opened i c v posted) es st open_state (λ j s b x. x) (λ j s. refl) shows.bodies;
             cases = record {
@@ -153,13 +156,7 @@ module _ (line : Line) (capacity : ℕ) (coin : Coin) (es : List Event) (h : Hel
           st,
           λ run. run,
           subst (λ y. Shows line coin onward y left st) (sym a.done.memory) (record {
-            mirrors = record {
-              large = moved_large line h shows.mirrors.large i c (r + 1) _ may_advance_lem.process may_advance_lem.case;
-              records = λ j s l w. let kept = shows.mirrors.records j s l w in record { stage = kept.stage; rows = kept.rows };
-              fresh = shows.mirrors.fresh;
-              waits = λ p. shows.mirrors.waits p ∙ sym (end p);
-              known = omega (arith, end (stranger line), shows.mirrors.known);
-            };
+            mirrors = mirrored i c may_advance_lem.process may_advance_lem.case (r + 1) _ st.said st.waiting left (λ j k. refl) (λ p. shows.mirrors.waits p ∙ sym (end p)) (omega (arith, end (stranger line), shows.mirrors.known));
             items = items_on (advanced i c (suc q) a.step.forced a.step.decides reached posted) es st st (λ j k b x. x) (λ j k. refl) shows.items;
             bodies = bodies_on line (advanced i c (suc q) a.step.forced a.step.decides reached posted) es st st (λ j s b x. x) (λ j s. refl) shows.bodies;
             cases = record {
@@ -184,13 +181,7 @@ module _ (line : Line) (capacity : ℕ) (coin : Coin) (es : List Event) (h : Hel
           ballot_state,
           λ run. machine.after run (machine.tell (Ballot i c (suc (suc q))) body left (may_advance_lem.process, may_advance_lem.correct) unsaid_next (joined_all line capacity coin es h ws st shows n i Initial (Ballot i c (suc (suc q))) body left end)),
           subst (λ y. Shows line coin onward y left ballot_state) (sym a.done.memory) (record {
-            mirrors = record {
-              large = moved_large line h shows.mirrors.large i c (r + 1) _ may_advance_lem.process may_advance_lem.case;
-              records = λ j s l w. let kept = shows.mirrors.records j s l w in record { stage = kept.stage; rows = kept.rows };
-              fresh = shows.mirrors.fresh;
-              waits = λ p. refl;
-              known = omega (arith, end (stranger line), count_append (stranger line) (to_all n i Initial (Ballot i c (suc (suc q))) body) ws, no_stranger line n i Initial (Ballot i c (suc (suc q))) body may_advance_lem.process inside, shows.mirrors.known);
-            };
+            mirrors = mirrored i c may_advance_lem.process may_advance_lem.case (r + 1) _ ballot_state.said left left (λ j k. refl) (λ p. refl) (known_told line capacity coin es h ws st shows i (Ballot i c (suc (suc q))) body left may_advance_lem.process inside end);
             items = items_on (advanced i c (suc q) a.step.forced a.step.decides reached posted) es st ballot_state (λ j k b x. x) (λ j k. refl) shows.items;
             bodies = bodies_on line (advanced i c (suc q) a.step.forced a.step.decides reached posted) es st ballot_state (λ j s b x. x) (λ j s. refl) shows.bodies;
             cases = record {

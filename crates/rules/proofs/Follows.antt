@@ -1,8 +1,9 @@
 -- What it means that the machine of broadcasts follows a run.
-use Rattle.std.proofs.Common.{◌≡◌, ℕ, ◌<◌, List, ◌∷◌, ◌++◌, get_or, Option, ap, arith}
-use Rattle.protocol.specs.Bags.{Same}
+use Rattle.std.proofs.Common.{◌≡◌, ℕ, true, ◌<◌, List, ◌∷◌, ◌++◌, get_or, Option, ap, arith}
+use Rattle.protocol.specs.Bags.{count, Same}
 use Rattle.protocol.specs.declared.messages.Message.{Message}
 use Rattle.protocol.specs.declared.messages.Step.{Step}
+use Rattle.protocol.specs.declared.messages.Step.TheVariants.{Initial}
 use Rattle.protocol.specs.declared.messages.Subject.{Subject}
 use Rattle.protocol.specs.declared.messages.Subject.TheVariants.{Ballot}
 use Rattle.protocol.specs.Sending.{to_all}
@@ -10,6 +11,7 @@ use Rattle.protocol.proofs.Bags.{count_append}
 use Rattle.protocol.specs.declared.votes.Side.{Side}
 use Rattle.plan.specs.Kinds.{Line}
 use Rattle.memory.specs.Contents.{Held, unopened}
+use Rattle.memory.specs.Places.{within}
 use Rattle.memory.specs.declared.records.CaseRecord.{CaseRecord}
 use Rattle.agreement.specs.Runs as machine
 use Rattle.agreement.specs.Runs.{State, told}
@@ -19,7 +21,7 @@ use Rattle.rules.specs.Turns.{said}
 use Rattle.rules.specs.Runs.{Event, Coin, Opening, Advancing, decision_of}
 use Rattle.rules.proofs.Records.{world_of}
 use Rattle.rules.proofs.Cases.{CasesShown, untold, all_carried}
-use Rattle.rules.proofs.Shows.{Shows}
+use Rattle.rules.proofs.Shows.{Shows, stranger, no_stranger}
 use Rattle.rules.proofs.Sending.{to_all_alike, in_front}
 
 -- the machine can follow to a state that shows where the run came to
@@ -34,6 +36,11 @@ module _ (line : Line) (capacity : ℕ) (coin : Coin) (es : List Event) (h : Hel
   -- and the machine may send it in its own order
   pub joined_all : (n i : ℕ) (step : Step) (s : Subject) (b : ℕ) (left : List Message) → Same left (to_all n i step s b ++ ws) → Same left (machine.to_all n i step s b ++ st.waiting)
   joined_all n i step s b left same = in_front _ _ st.waiting left (to_all_alike n i step s b) (joined (to_all n i step s b) left same)
+
+  -- what a process of the line tells has no stranger
+  pub known_told : (i : ℕ) (s : Subject) (b : ℕ) (left : List Message) → i < line.plan.n → within line.plan s ≡ true → Same left (to_all line.plan.n i Initial s b ++ ws) → count (stranger line) left ≡ 0
+  known_told i s b left lt inside same =
+      omega (arith, same (stranger line), count_append (stranger line) (to_all line.plan.n i Initial s b) ws, no_stranger line line.plan.n i Initial s b lt inside, shows.mirrors.known)
 
   -- nothing is told of cases
   pub still : (e : Event) (next : Held) (now : State) → ((j d r : ℕ) (f x : Option Side) → Advancing j d r f x e → ⊥) → ((j d : ℕ) (v : Side) → Opening j d v e → ⊥) → ((j d : ℕ) → decision_of (e ∷ es) j d ≡ decision_of es j d) → next.cases ≡ h.cases → ((j d q : ℕ) → now.said (Ballot j d q) ≡ st.said (Ballot j d q)) → ((j d : ℕ) → j < line.plan.n → Part (ballots_at line.plan h j d) (ballots_at line.plan next j d)) → CasesShown line coin (e ∷ es) next now

@@ -30,7 +30,7 @@ use Rattle.rules.proofs.Ballots.{same_ballots, ballot_accepted, accepted_ballot}
 use Rattle.rules.proofs.Shows.{Shows, as_large, items_on, bodies_on, stranger, AnnounceAllowed, announce_allowed, forge_allowed, deliver_allowed, no_stranger, no_strange_sender, not_stranger}
 use Rattle.rules.proofs.Deliveries as deliveries
 use Rattle.rules.proofs.Sending.{in_front}
-use Rattle.rules.proofs.Follows.{Follow, joined_all, still}
+use Rattle.rules.proofs.Follows.{Follow, joined_all, known_told, still}
 
 module _ (line : Line) (capacity : ℕ) (coin : Coin) (es : List Event) (h : Held) (ws : List Message) (st : State) (shows : Shows line coin es h ws st) where
   pub by_refused : (turn : _) (e : Refusal) (after : Held) (left : List Message) → Happens line capacity h ws coin (refused turn e) after left → Follow line coin st (refused turn e ∷ es) after left
@@ -112,7 +112,7 @@ module _ (line : Line) (capacity : ℕ) (coin : Coin) (es : List Event) (h : Hel
         records = λ j s lt inside. let kept = shows.mirrors.records j s lt inside in record { stage = kept.stage; rows = kept.rows };
         fresh = fresh_next;
         waits = λ p. refl;
-        known = omega (arith, a.done.carrier (stranger line), count_append (stranger line) (to_all line.plan.n i Initial (Item i k) b) ws, no_stranger line line.plan.n i Initial (Item i k) b may.process item_inside, shows.mirrors.known);
+        known = known_told line capacity coin es h ws st shows i (Item i k) b left may.process item_inside a.done.carrier;
       };
       items = record {
         announces = λ j l c t.

@@ -39,6 +39,7 @@ pub fn run_shared<C: Carrier, K: SharedCoin, I: Item>(
 ) -> Result<Line, (Refusal, Draft)>
     ensures { RanShared I.Item.ok I.Item.packed I.Item.unpacked draft (C.Carrier.capacity carrier.old) (K.Coin.shows coin.now) (held memory.old) (C.Carrier.waiting carrier.old) turns.now result (held memory.new) (C.Carrier.waiting carrier.new) }
 {
+    // The toss is not used: what it ensures tells the proof that the coin is alike.
     let _ = coin.toss_for_all(0, 1);
     run(draft, memory, carrier, coin, turns)
 }

@@ -3,7 +3,7 @@ use protocol::Message;
 use rules::{Advanced, Announced, Delivered};
 
 // What a turn is told. The value may be of any item type.
-#[derive(Drop)]
+#[derive(Clone, Copy, Debug, Drop, PartialEq, Eq)]
 pub enum Turn<I> {
     Announce { process: u64, value: I },
     Open { process: u64, case: u64, vote: u64 },

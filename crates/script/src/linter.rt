@@ -1,6 +1,6 @@
-ghost use Rattle.std.specs.Prelude.{◌≡◌, IfOk};
+ghost use Rattle.std.specs.Prelude.{◌≡◌, ◌++◌, IfOk};
 ghost use Rattle.script.specs.Lint.{checked, sized, answer, reported, linted};
-ghost use Rattle.text.specs.Shown.{shown, Adds};
+ghost use Rattle.text.specs.Shown.{shown};
 
 use crate::fault::ScriptFault;
 use crate::split::Lines;
@@ -32,7 +32,7 @@ pub fn check_size(input: &[u8]) -> Result<(), ScriptFault>
 
 // The line's form written back, or its fault.
 fn lint_line(text: Text, number: u64, line: &[u8]) -> Result<Text, AllocError>
-    ensures { Adds result text (answer number line.now) }
+    ensures { IfOk result (λ t. shown t ≡ shown text ++ answer number line.now) }
 {
     match check_line(number, line) {
         Ok(form) => form.write_to(text),
@@ -41,7 +41,7 @@ fn lint_line(text: Text, number: u64, line: &[u8]) -> Result<Text, AllocError>
 }
 
 fn lint_lines(mut text: Text, input: &[u8]) -> Result<Text, AllocError>
-    ensures { Adds result text (reported 1 input.now) }
+    ensures { IfOk result (λ t. shown t ≡ shown text ++ reported 1 input.now) }
 {
     for (number, line) in Lines::new(input) {
         text = lint_line(text, number, line)?.put(b"\n")?;

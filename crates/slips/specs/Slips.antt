@@ -14,7 +14,7 @@ use Rattle.memory.specs.declared.records.Slip.{Slip}
 use Rattle.memory.specs.declared.records.Slip.TheVariants.{Absent, Out, HandedOver}
 use Rattle.line.specs.Checks.{process_tests, correct_tests}
 use Rattle.rules.specs.Turns.{unless}
-use Rattle.rules.specs.Runs.{Event, Coin, Run, Decided}
+use Rattle.rules.specs.Runs.{Event, Coin, Run, Decided, Aside}
 use Rattle.slips.specs.declared.slip.ReleaseSlip.{ReleaseSlip}
 
 abbrev pub releases : Side → Bool
@@ -59,6 +59,7 @@ module _ (line : Line) (h : Held) (i c : ℕ) where
   pub record Refused (why : Option Refusal) (e : Refusal) (after : Held) : Type 0 where
     pub first : why ≡ Some e
     pub memory : after ≡ h
+    pub aside : Aside h after
 
   -- the slip with these numbers is out
   pub record IsIssued (slip : ReleaseSlip) (after : Held) : Type 0 where
@@ -66,6 +67,7 @@ module _ (line : Line) (h : Held) (i c : ℕ) where
     pub process : slip.process ≡ i
     pub case : slip.case ≡ c
     pub memory : after ≡ with_slip Out
+    pub aside : Aside h after
 
   abbrev pub Issued : Result ReleaseSlip Refusal → Held → Type 0
   Issued (Ok slip) after = IsIssued slip after
@@ -79,6 +81,7 @@ module _ (line : Line) (h : Held) (i c : ℕ) where
   pub record IsSpent (state : Slip) (after : Held) : Type 0 where
     pub allowed : back_refusal ≡ None
     pub memory : after ≡ with_slip state
+    pub aside : Aside h after
 
   abbrev pub Spent : Slip → Result (Unit {0}) Refusal → Held → Type 0
   Spent state (Ok x) after = IsSpent state after

@@ -1,7 +1,6 @@
 // Giving a slip back.
 ghost use Rattle.memory.specs.Contents.{held};
 ghost use Rattle.memory.specs.declared.records.Slip.TheVariants.{Absent, HandedOver};
-ghost use Rattle.rules.specs.Runs.{Aside};
 ghost use Rattle.slips.specs.Slips.{GivenBack, Spent};
 
 use crate::slip::ReleaseSlip;
@@ -17,8 +16,7 @@ pub fn hand_over(
     memory: &mut Memory,
     slip: ReleaseSlip,
 ) -> Result<(), (Refusal, ReleaseSlip)>
-    ensures answer { GivenBack HandedOver line.now (held memory.old) slip result (held memory.new) }
-    ensures aside { Aside (held memory.old) (held memory.new) }
+    ensures { GivenBack HandedOver line.now (held memory.old) slip result (held memory.new) }
 {
     give_back(line, memory, slip, Slip::HandedOver)
 }
@@ -29,21 +27,20 @@ pub fn put_back(
     memory: &mut Memory,
     slip: ReleaseSlip,
 ) -> Result<(), (Refusal, ReleaseSlip)>
-    ensures answer { GivenBack Absent line.now (held memory.old) slip result (held memory.new) }
-    ensures aside { Aside (held memory.old) (held memory.new) }
+    ensures { GivenBack Absent line.now (held memory.old) slip result (held memory.new) }
 {
     give_back(line, memory, slip, Slip::Absent)
 }
 
-// Ends the slip and leaves its state. A refusal gives the slip back.
+// Ends the slip and leaves its state. A refusal gives the slip back: a pair, as Rust's own calls give a value back with an error, and
+// one pattern takes it apart.
 fn give_back(
     line: &Line,
     memory: &mut Memory,
     slip: ReleaseSlip,
     state: Slip,
 ) -> Result<(), (Refusal, ReleaseSlip)>
-    ensures answer { GivenBack state line.now (held memory.old) slip result (held memory.new) }
-    ensures aside { Aside (held memory.old) (held memory.new) }
+    ensures { GivenBack state line.now (held memory.old) slip result (held memory.new) }
 {
     let ReleaseSlip { process, case } = slip;
     spend(line, memory, process, case, state).map_err(|refusal| (
@@ -60,8 +57,7 @@ fn spend(
     case: u64,
     state: Slip,
 ) -> Result<(), Refusal>
-    ensures answer { Spent line.now (held memory.old) process case state result (held memory.new) }
-    ensures aside { Aside (held memory.old) (held memory.new) }
+    ensures { Spent line.now (held memory.old) process case state result (held memory.new) }
 {
     check_process(line, memory, process)?;
     let at = find_case(line, process, case)?;

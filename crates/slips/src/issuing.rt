@@ -1,7 +1,6 @@
-// Issuing a slip, and its stub.
+// Issuing a slip.
 ghost use Rattle.std.specs.Prelude.{◌≡◌, None, OnOk};
 ghost use Rattle.memory.specs.Contents.{held};
-ghost use Rattle.rules.specs.Runs.{Aside};
 ghost use Rattle.slips.specs.Slips.{may_issue, back_refusal, Issued, Truthful};
 
 use crate::slip::ReleaseSlip;
@@ -18,7 +17,6 @@ pub fn issue(
     case: u64,
 ) -> Result<ReleaseSlip, Refusal>
     ensures answer { Issued line.now (held memory.old) process case result (held memory.new) }
-    ensures aside { Aside (held memory.old) (held memory.new) }
     ensures returnable { OnOk result (back_refusal line.now (held memory.new) process case ≡ None) }
     ensures truthful { Truthful line.now (held memory.old) process case result }
 {
@@ -46,16 +44,4 @@ fn may_issue(record: CaseRecord) -> bool
         .decision
         .is_some_and(|decision| decision.side == Side::Release);
     released && record.slip == Slip::Absent
-}
-
-impl ReleaseSlip {
-    // Gives the slip back with its process and its case.
-    pub fn stub(self) -> (ReleaseSlip, u64, u64)
-        ensures slip { result.0 ≡ self }
-        ensures process { result.1 ≡ self.process }
-        ensures case { result.2 ≡ self.case }
-    {
-        let ReleaseSlip { process, case } = self;
-        (ReleaseSlip { process, case }, process, case)
-    }
 }

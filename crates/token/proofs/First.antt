@@ -31,7 +31,7 @@ in_place b bs (Some t) h =
 
 in_nothing : (r : Option Token) → Lexed [] r → First [] r
 in_nothing None h = h
-in_nothing (Some t) h = absurd (let z : ◌≡◌ {A = ℕ} 0 1 = ap (λ b. cond b 1 0) h.0 in omega arith)
+in_nothing (Some t) h = cc
 
 pub first_from_lexed : (s : List ℕ) (n : ℕ) (r : Option Token) → n ≡ spanning s → Lexed (take n s) r → First s r
 first_from_lexed [] n r e h = in_nothing r (subst (λ m. Lexed (take m []) r) e h)

@@ -20,11 +20,8 @@ joins_on a b c h = grind (arith, nat_tests)
 
 pub lead_pieces : (s : List ℕ) → lead (pieces s) ≡ get_or s 0 0
 lead_pieces [] = refl
-lead_pieces (b ∷ bs) = go (joins b (lead (pieces bs))) refl
-  where
-    go : (t : Bool) → joins b (lead (pieces bs)) ≡ t → lead (pieces (b ∷ bs)) ≡ b
-    go true e = ap (λ t. lead (cond t ((b ∷ front (pieces bs)) ∷ behind (pieces bs)) ((b ∷ []) ∷ pieces bs))) e
-    go false e = ap (λ t. lead (cond t ((b ∷ front (pieces bs)) ∷ behind (pieces bs)) ((b ∷ []) ∷ pieces bs))) e
+lead_pieces (b ∷ bs) =
+    elim (joins b (lead (pieces bs))) as (λ t. lead (cond t ((b ∷ front (pieces bs)) ∷ behind (pieces bs)) ((b ∷ []) ∷ pieces bs)) ≡ b) [ true ↦ refl | false ↦ refl ]
 
 -- a byte goes on the token behind it, or stands apart from it
 pub pieces_on : (b c : ℕ) (cs p : List ℕ) (ps : List (List ℕ)) → joins b c ≡ true → pieces (c ∷ cs) ≡ p ∷ ps → pieces (b ∷ c ∷ cs) ≡ (b ∷ p) ∷ ps

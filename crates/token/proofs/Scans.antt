@@ -14,7 +14,7 @@ fault_at_lem at [] some h = absurd (some refl)
 fault_at_lem at (p ∷ ps) some h = ap (λ b. cond b (Ok (Some p)) (Err (record { place = at }))) h
 
 pieces_some : (s : List ℕ) → eqb (length s) 0 ≡ false → pieces s ≡ [] → ⊥
-pieces_some [] e h = absurd (let z : ◌≡◌ {A = ℕ} 1 0 = ap (λ b. cond b 1 0) e in omega arith)
+pieces_some [] e h = cc
 pieces_some (b ∷ bs) e h = omega (arith, ap length (sym (pieces_first b bs) ∙ h))
 
 scan_fault : (at : Place) (s : List ℕ) → eqb (length s) 0 ≡ false → First s None → scanned at (pieces s) ≡ Err (record { place = at })

@@ -17,7 +17,7 @@ returns-then-is_faulty-clause-turn g c =
     let m = c.in_ok-message.message in
     let taken = c.in_ok-message.ensures in
     let role : faulty line c.args.process ≡ true = sym c.is_faulty.ensures.value ∙ c.if-is_faulty.true in
-    let allowed = may_deliver line h c.args.process c.args.pick m (carrier.waiting before) (carrier.waiting mid) taken.taken (carrier.capacity before) c.in_ok-check_process.ensures.first c.in_ok-check_room.ensures in
+    let allowed = may_deliver line h c.args.process c.args.pick m (carrier.waiting before) (carrier.waiting mid) taken.taken (carrier.capacity before) c.in_ok-check_process.ensures.first c.in_ok-check_room_for_replies.ensures in
     took line h c.args.process c.args.pick m (carrier.waiting before) (carrier.waiting mid) taken.taken {waiting = carrier.waiting} {capacity = carrier.capacity} before mid mid _ h (outcome h nothing) refl taken.told allowed
     (drops line h c.args.process c.args.pick m (carrier.waiting before) (carrier.waiting mid) taken.taken role)
     refl
@@ -33,7 +33,7 @@ reply-posted-requires g c =
     let mid = c.take.new.self in
     let taken = c.in_ok-message.ensures in
     let role : faulty line c.args.process ≡ false = sym c.is_faulty.ensures.value ∙ c.if-is_faulty.false in
-    let room = room_left line (held c.args.memory.now) c.args.process c.args.pick c.in_ok-message.message (carrier.waiting before) (carrier.waiting mid) taken.taken (carrier.capacity before) (carrier.fits before) c.in_ok-check_room.ensures role in
+    let room = room_left line (held c.args.memory.now) c.args.process c.args.pick c.in_ok-message.message (carrier.waiting before) (carrier.waiting mid) taken.taken (carrier.capacity before) (carrier.fits before) c.in_ok-check_room_for_replies.ensures role in
     omega (arith, room, taken.kept)
 
 pub returns-clause-turn : goal.returns-clause-turn
@@ -47,7 +47,7 @@ returns-clause-turn g c =
     let taken = c.in_ok-message.ensures in
     let reaction = c.receive-reaction.result in
     let role : faulty line c.args.process ≡ false = sym c.is_faulty.ensures.value ∙ c.if-is_faulty.false in
-    let allowed = may_deliver line h c.args.process c.args.pick m (carrier.waiting before) (carrier.waiting mid) taken.taken (carrier.capacity before) c.in_ok-check_process.ensures.first c.in_ok-check_room.ensures in
+    let allowed = may_deliver line h c.args.process c.args.pick m (carrier.waiting before) (carrier.waiting mid) taken.taken (carrier.capacity before) c.in_ok-check_process.ensures.first c.in_ok-check_room_for_replies.ensures in
     let sent = c.reply-posted.ensures.sent in
     took line h c.args.process c.args.pick m (carrier.waiting before) (carrier.waiting mid) taken.taken {waiting = carrier.waiting} {capacity = carrier.capacity} before mid c.reply-posted.new.carrier _ (held c.receive-reaction.new.memory)
     (outcome (held c.receive-reaction.new.memory) reaction)

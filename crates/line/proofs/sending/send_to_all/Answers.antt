@@ -1,35 +1,28 @@
-use Rattle.std.proofs.Common.{◌≡◌, ap, subst, arith}
+use Rattle.std.proofs.Common.{sym, ap, ◌∙◌, arith}
 use Rattle.plan.specs.declared.plans.Plan.{Plan}
-use Rattle.protocol.specs.Sending.{to_all}
-use Rattle.line.specs.Sent.{Sent}
-use Rattle.line.proofs.Rows.{to_length, sent_none, sent_more, sent_length}
+use Rattle.line.proofs.Rows.{to_length, sent_none, sent_more, sent_length, post_ok}
 use Rattle.line.proofs.sending.send_to_all.Goals as goal
 
 pub loop-addressee-init : goal.loop-addressee-init
 loop-addressee-init g c = sent_none _ _ _ _ _ _ _ _
 
-pub unreachable-requires-in_default-post : goal.unreachable-requires-in_default-post
-unreachable-requires-in_default-post g c =
+pub unwrap-requires : goal.unwrap-requires
+unwrap-requires g c =
     let inv = c.loop-addressee.invariant in
-    omega (arith, ap (λ (p : Plan). p.n) c.plan.ensures, sent_length _ _ _ _ _ _ inv, to_length c.args.sender c.args.step c.args.subject c.args.body c.loop-addressee.addressee, inv.kept, c.in_default-post.ensures.posted.full)
+    post_ok _ _ _ _ _ c.post.ensures.posted
+    (omega (arith, ap (λ (p : Plan). p.n) c.plan.ensures, sent_length _ _ _ _ _ _ inv, to_length c.args.sender c.args.step c.args.subject c.args.body c.loop-addressee.addressee, inv.kept))
 
 pub loop-addressee-preserved : goal.loop-addressee-preserved
 loop-addressee-preserved g c =
-    let posted = c.in-Ok-post.ensures in
-    sent_more _ _ _ c.args.sender c.args.step c.args.subject c.args.body _ c.loop-addressee.addressee c.loop-addressee.carrier _ c.in-Ok.message
+    let posted = rw c.unwrap.ensures at c.post.ensures.posted in
+    sent_more _ _ _ c.args.sender c.args.step c.args.subject c.args.body _ c.loop-addressee.addressee c.loop-addressee.carrier _ c.unwrap-message.result
     c.requires.sender
     (omega arith)
-    c.in-Ok.ensures
+    (sym c.unwrap-message.ensures ∙ c.new.ensures)
     c.loop-addressee.invariant
-    posted.kept
-    posted.posted.same
-    posted.told
+    c.post.ensures.kept
+    posted.same
+    (rw c.unwrap.ensures at c.post.ensures.told)
 
-pub returns : goal.returns
-returns g c =
-    let n = c.args.line.now.plan.n in
-    let end : c.loop-addressee.addressee ≡ n = omega (arith, ap (λ (p : Plan). p.n) c.plan.ensures) in
-    record {
-      sent = subst (λ n. Sent g.C.Carrier.waiting g.C.Carrier.capacity g.C.Carrier.posting c.args.carrier.now (to_all n c.args.sender c.args.step c.args.subject c.args.body) c.loop-addressee.carrier) end c.loop-addressee.invariant;
-      count = omega (arith, ap (λ (p : Plan). p.n) c.plan.ensures, to_length c.args.sender c.args.step c.args.subject c.args.body n);
-    }
+pub returns-clause-count : goal.returns-clause-count
+returns-clause-count g c = omega (arith, ap (λ (p : Plan). p.n) c.plan.ensures, to_length c.args.sender c.args.step c.args.subject c.args.body c.args.line.now.plan.n)
