@@ -1,9 +1,10 @@
 -- What holds after every run.
-use Rattle.std.specs.Prelude.{◌≡◌, ℕ, suc, ◌+◌, ◌*◌, ◌<◌, ◌≤◌, ◌↔◌, Bool, true, false, List, Some, Option}
+use Rattle.std.specs.Prelude.{◌≡◌, ℕ, suc, ◌+◌, ◌*◌, ◌<◌, ◌≤◌, ◌↔◌, Bool, true, false, List, [], Some, Option}
 use Rattle.protocol.specs.declared.messages.Message.{Message}
 use Rattle.protocol.specs.declared.messages.Subject.{Subject}
 use Rattle.protocol.specs.declared.messages.Subject.TheVariants.{Item}
 use Rattle.protocol.specs.declared.votes.Side.{Side}
+use Rattle.protocol.specs.declared.votes.Side.TheVariants.{Release}
 use Rattle.plan.specs.Kinds.{Line}
 use Rattle.carrier.specs.Waiting.{waiting_for}
 use Rattle.memory.specs.Contents.{Held, stage_at, case_at, accepted_body}
@@ -84,3 +85,20 @@ pub record Promises (line : Line) (coin : Coin) (es : List Event) (h : Held) (ws
 -- for every run on a line
 abbrev pub Kept : Line → ℕ → Coin → Type 0
 Kept line capacity coin = (es : List Event) (h : Held) (ws : List Message) → Run line capacity coin es h ws → Promises line coin es h ws
+
+-- What can come about. Process 0, at rest, has announced and accepted an item. Each correct process has opened a case, was
+-- forced in its first phase to the side that the coin shows it, and to no other, and has ended the last phase, which is
+-- the next. Process 0 has decided this side in the first phase.
+pub record Happening (line : Line) (capacity : ℕ) (coin : Coin) (es : List Event) (h : Held) : Type 0 where
+  pub run : Run line capacity coin es h []
+  pub rest : AtRest line h []
+  pub correct : Correct line 0
+  pub announced : Announced es 0 0 5
+  pub accepted : Accepted es 0 (Item 0 0) 5
+  pub opened : (o : ℕ) → Correct line o → Opened es o 0 Release
+  pub forced : (o : ℕ) → Correct line o → Forced es o 0 1 Release
+  pub only : (o : ℕ) (u : Side) → Correct line o → Forced es o 0 1 u → u ≡ Release
+  pub shown : (o : ℕ) → Correct line o → coin o 0 1 ≡ Release
+  pub ended : (o : ℕ) → Correct line o → Ended es o 0 2
+  pub last : line.plan.phases ≡ 2
+  pub decided : Decided es 0 0 Release 1
