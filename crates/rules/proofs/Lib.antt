@@ -12,3 +12,4 @@ pub mod CaseSteps
 pub mod Steps
 pub mod Told
 pub mod Theorem
+pub mod Example

@@ -1,6 +1,6 @@
 -- After every run the promises hold.
-use Rattle.std.proofs.Common.{◌≡◌, ℕ, zero, suc, ◌+◌, ◌-◌, ◌*◌, ◌/◌, ◌<◌, ◌≤◌, true, List, Some, None, Option, sym, refl, ap, ◌∙◌, subst, ⊎_elim, arith}
-use Rattle.std.proofs.lemmas.Bool.{and_from, cond-false, cases_lt}
+use Rattle.std.proofs.Common.{◌≡◌, ℕ, zero, suc, ◌+◌, ◌-◌, ◌*◌, ◌/◌, ◌<◌, ◌≤◌, true, false, List, [], Some, None, Option, sym, refl, ap, ◌∙◌, subst, ⊎_elim, arith}
+use Rattle.std.proofs.lemmas.Bool.{and_from, cond-true, cond-false, cases_Bool, cases_lt}
 use Rattle.protocol.specs.Numbers.{ballot_number, side_number, vote}
 use Rattle.agreement.specs.Worlds.{Sound}
 use Rattle.protocol.specs.declared.messages.Message.{Message}
@@ -26,12 +26,12 @@ use Rattle.consensus.specs.Validity.{Quorum, Part, Resilient}
 use Rattle.consensus.specs.Accounts.{Account, Outcomes}
 use Rattle.consensus.proofs.Accounts.{outcomes}
 use Rattle.ballots.specs.Places.{ballots_at}
-use Rattle.ballots.proofs.Reading.{ballot_within}
-use Rattle.cases.specs.Steps.{round_at, may_advance, step_at}
+use Rattle.ballots.proofs.Reading.{ballot_within, covered}
+use Rattle.cases.specs.Steps.{round_at, may_advance, step_at, chosen}
 use Rattle.cases.proofs.Going.{law}
 use Rattle.rules.specs.Turns.{faulty}
-use Rattle.rules.specs.Runs.{Event, Coin, Run, begun, after, aside, Told, Advancing, Opened, Ended, Forced, Decided}
-use Rattle.rules.specs.Promises.{Correct, Quiet, AtRest, Luck, Promises, Kept}
+use Rattle.rules.specs.Runs.{Event, Coin, Run, begun, after, aside, Straight, at_opening, one_more, Told, Advancing, Opened, Ended, Forced, Decided}
+use Rattle.rules.specs.Promises.{Correct, Quiet, Stuck, AtRest, Luck, Promises, Kept}
 use Rattle.rules.proofs.Stages.{shown_accepted}
 use Rattle.rules.proofs.Records.{world_of}
 use Rattle.rules.proofs.Cases.{CaseShown, ForcedAt, DecidedAt, vote_number}
@@ -138,16 +138,41 @@ module _ (line : Line) where
       agree : (i j : ℕ) (u v : Side) → Correct line i → Correct line j → Tells es i c u → Tells es j c v → u ≡ v
       agree i j u v ci cj x y = settles.agreement i j _ _ u v ci cj (told_left i ci u x) (told_left j cj v y) (told_at i ci u x) (told_at j cj v y)
 
+      -- of one process
+      module _ (i : ℕ) (ci : Correct line i) where
+        began : (v : Side) → Opened es i c v → 0 < rounds i
+        began v t = ⊎_elim (λ (l : 0 < rounds i). l) (λ (l : rounds i ≤ 0). absurd (none_some _ (side_number v) ((held i ci).unsaid 0 l) ((held i ci).votes v t))) (cases_lt 0 (rounds i))
+
+        voted : 0 < rounds i → (v : Side) × Opened es i c v
+        voted lt =
+            let x = (held i ci).spoke 0 lt (omega (arith, line.plan.first)) in
+            let u = x.2.0 in
+            (u, (held i ci).voted u (x.1 ∙ ap Some (x.2.1 ∙ vote_number u)))
+
+        -- to the code a process may not advance exactly where it is stuck
+        stuck : may_advance line.plan h i c ≡ false → Stuck line h i c
+        stuck still r S at early full =
+            let none : step_at line.plan h i c ≡ None = cond-false (may_advance line.plan h i c) _ None still in
+            let covers = and_from _ _ (ballot_within line.plan i c (rounds i) ci.0 below (omega arith) (omega arith)) shows.mirrors.large in
+            (law line.plan h i c None (sym none)).none refl covers S (subst (λ k. Quorum n line.plan.t (own i) k S) (omega arith) full)
+
+        waits : Stuck line h i c → may_advance line.plan h i c ≡ false
+        waits held_up = ⊎_elim goes (λ e. e) (cases_Bool (may_advance line.plan h i c))
+          where
+            goes : may_advance line.plan h i c ≡ true → may_advance line.plan h i c ≡ false
+            goes e =
+                let step : step_at line.plan h i c ≡ Some _ = cond-true (may_advance line.plan h i c) _ None e in
+                let by = law line.plan h i c _ (sym step) in
+                let at = covered line.plan h i c (rounds i) (by.covered _ refl) in
+                absurd (held_up (rounds i - 1) (chosen line.plan h i c) (omega (arith, at.first)) (omega (arith, at.first, at.last)) (by.says _ refl).quorum)
+
       unanimous : (v : Side) → ((o : ℕ) (u : Side) → Correct line o → Opened es o c u → u ≡ v) → (o b : ℕ) → Correct line o → said o 0 ≡ Some b → b ≡ ballot_number (vote v)
       unanimous v same o b co e = ⊎_elim open_case (λ (l : rounds o ≤ 0). absurd (none_some _ b ((held o co).unsaid 0 l) e)) (cases_lt 0 (rounds o))
         where
           open_case : 0 < rounds o → b ≡ ballot_number (vote v)
           open_case lt =
-              let x = (held o co).spoke 0 lt (omega (arith, line.plan.first)) in
-              let is = some_once _ b x.0 e x.1 in
-              let u = x.2.0 in
-              let by = (held o co).voted u (x.1 ∙ ap Some (x.2.1 ∙ vote_number u)) in
-              is ∙ x.2.1 ∙ ap (λ w. ballot_number (vote w)) (same o u co by)
+              let v = voted o co lt in
+              some_once _ b _ e ((held o co).votes v.0 v.1) ∙ sym (vote_number v.0) ∙ ap (λ w. ballot_number (vote w)) (same o v.0 co v.1)
 
       -- at rest
       module _ (rest : AtRest line h ws) (opened : (o : ℕ) → Correct line o → (v : Side) × Opened es o c v) where
@@ -160,18 +185,8 @@ module _ (line : Line) where
         delivered i k r b ci ck lt e =
             accepted_ballot line h st.recs shows.mirrors.records i c k r b ci.0 (ballot_within line.plan k c (suc r) ck.0 below (omega arith) (omega arith)) (all.delivery (rests rest.quiet) (Ballot k c (suc r)) i b ck ci e)
 
-        stuck : (i r : ℕ) (S : _) → Correct line i → rounds i ≡ suc r → r < last → Quorum n line.plan.t (own i) r S → ⊥
-        stuck i r S ci e lt full =
-            let none : step_at line.plan h i c ≡ None = cond-false (may_advance line.plan h i c) _ None (rest.stuck i c ci below) in
-            let covers = and_from _ _ (ballot_within line.plan i c (rounds i) ci.0 below (omega arith) (omega arith)) shows.mirrors.large in
-            (law line.plan h i c None (sym none)).none refl covers S (subst (λ k. Quorum n line.plan.t (own i) k S) (omega arith) full)
-
-        began : (i : ℕ) → Correct line i → 0 < rounds i
-        began i ci =
-            ⊎_elim (λ (l : 0 < rounds i). l) (λ (l : rounds i ≤ 0). let v = opened i ci in absurd (none_some _ (side_number v.0) ((held i ci).unsaid 0 l) ((held i ci).votes v.0 v.1))) (cases_lt 0 (rounds i))
-
         ends : (i : ℕ) → Correct line i → Ended es i c line.plan.phases
-        ends i ci = (held i ci).gone last (omega (arith, line.plan.first)) (settles.ending complete delivered stuck began i ci)
+        ends i ci = (held i ci).gone last (omega (arith, line.plan.first)) (settles.ending complete delivered (λ k r S ck. rest.stuck k c ck below r S) (λ k ck. let v = opened k ck in began k ck v.0 v.1) i ci)
 
       -- a coin that shows what is forced
       module _ (m : ℕ) (v : Side) (shared : (o : ℕ) → Correct line o → coin o c (suc m) ≡ v) (only : (o : ℕ) (u : Side) → Correct line o → Forced es o c (suc m) u → u ≡ v) (i : ℕ) (ci : Correct line i) (ended : Ended es i c (suc (suc m))) where
@@ -228,8 +243,22 @@ module _ (line : Line) where
         only = λ s i b ci inside x. shows.bodies.accepted i s b (sym (shown_accepted _ _ _ _ (shows.mirrors.records i s ci.0 inside).stage) ∙ x);
         inside = λ s i b. shows.bodies.inside i s b;
         decided = λ i c ci below. (shows.cases.each i c ci.0 below).decision;
+        opened = λ i c ci. (
+          (λ t. let below = shows.cases.openers i c t.0 t.1 in (below, began c below i ci t.0 t.1)),
+          (λ x. voted c x.0 i ci x.1),
+        );
+        ended = λ i c k ci first. (
+          (λ e. let below = shows.cases.advancers i c _ e.0 e.1 e.2 in (below, ((shows.cases.each i c ci.0 below).bound _ e.0 e.1 e.2).1)),
+          (λ x. (shows.cases.each i c ci.0 x.0).gone (3 * k) (omega arith) x.1),
+        );
       };
+      counted = λ i c ci below. (stuck c below i ci, waits c below i ci);
     }
+
+-- turns with nothing between them are a run
+pub straight : (line : Line) (capacity : ℕ) (coin : Coin) (begin : Held) → Run line capacity coin [] begin [] → (es : List Event) (h : Held) (ws : List Message) → Straight line capacity coin begin es h ws → Run line capacity coin es h ws
+straight line capacity coin begin run _ _ _ at_opening = run
+straight line capacity coin begin run _ _ _ (one_more {es} {h} {next} {ws} {left} before e happens) = after (straight line capacity coin begin run es h ws before) e happens
 
 pub kept : (line : Line) (capacity : ℕ) (coin : Coin) → Kept line capacity coin
 kept line capacity coin es h ws run = let a = along line capacity coin es h ws run in promises line coin es h ws a.0 a.1 a.2

@@ -78,7 +78,7 @@ module _ (line : Line) (capacity : ℕ) (h : Held) (ws : List Message) where
   Happens coin (delivered i pick m posted accepted) after left = Delivers i pick m posted accepted after left
   Happens coin (advanced i c r forced decides reached posted) after left = Advances coin i c r forced decides reached posted after left
 
--- reading and slip calls change slip states at most
+-- nothing changes but slip states, as with reading and slip calls, which change no more than this
 pub record Aside (h next : Held) : Type 0 where
   pub broadcasts : next.broadcasts ≡ h.broadcasts
   pub bodies : next.bodies ≡ h.bodies
@@ -92,6 +92,11 @@ pub data Run (line : Line) (capacity : ℕ) (coin : Coin) : List Event → Held 
   begun : (h : Held) → enough line.plan h ≡ true → Run line capacity coin [] (cleared line.plan h) []
   after : {es : List Event} {h next : Held} {ws left : List Message} → Run line capacity coin es h ws → (e : Event) → Happens line capacity h ws coin e next left → Run line capacity coin (e ∷ es) next left
   aside : {es : List Event} {h next : Held} {ws : List Message} → Run line capacity coin es h ws → Aside h next → Run line capacity coin es next ws
+
+-- turns one after another, from memory `start` and with nothing waiting; nothing stands between them
+pub data Straight (line : Line) (capacity : ℕ) (coin : Coin) (start : Held) : List Event → Held → List Message → Type 0 where
+  at_opening : Straight line capacity coin start [] start []
+  one_more : {es : List Event} {h next : Held} {ws left : List Message} → Straight line capacity coin start es h ws → (e : Event) → Happens line capacity h ws coin e next left → Straight line capacity coin start (e ∷ es) next left
 
 -- some event tells it
 abbrev pub Told : (Event → Type 0) → List Event → Type 0

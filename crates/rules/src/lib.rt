@@ -4,10 +4,11 @@
 
 pub mod answers;
 
-ghost use Rattle.std.specs.Prelude.{ℕ};
+ghost use Rattle.std.specs.Prelude.{ℕ, List};
 ghost use Rattle.plan.specs.Kinds.{Line};
-ghost use Rattle.rules.specs.Promises.{Kept};
-ghost use Rattle.rules.specs.Runs.{Coin};
+ghost use Rattle.memory.specs.Contents.{Held};
+ghost use Rattle.rules.specs.Promises.{Happening, Kept};
+ghost use Rattle.rules.specs.Runs.{Coin, Event};
 
 pub use answers::{Advanced, Announced, Delivered};
 
@@ -15,4 +16,9 @@ pub use answers::{Advanced, Announced, Delivered};
 // opened has ended; a coin that shows what is forced decides.
 pub fn runs_keep_promises()
     ensures { (line : Line) (capacity : ℕ) (coin : Coin) → Kept line capacity coin }
+{}
+
+// All that these promises speak of comes about in some run, with room for three messages.
+pub fn runs_happen()
+    ensures { (line : Line) × (coin : Coin) × (es : List Event) × (h : Held) × Happening line 3 coin es h }
 {}

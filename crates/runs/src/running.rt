@@ -20,7 +20,7 @@ pub fn run<C: Carrier, K: Coin, I: Item>(
     coin: &K,
     turns: &[Turn<I>],
 ) -> Result<Line, (Refusal, Draft)>
-    ensures { Ran I.Item.packed draft (C.Carrier.capacity carrier.old) (K.Coin.shows coin.now) (held memory.old) (C.Carrier.waiting carrier.old) turns.now result (held memory.new) (C.Carrier.waiting carrier.new) }
+    ensures { Ran I.Item.ok I.Item.packed I.Item.unpacked draft (C.Carrier.capacity carrier.old) (K.Coin.shows coin.now) (held memory.old) (C.Carrier.waiting carrier.old) turns.now result (held memory.new) (C.Carrier.waiting carrier.new) }
 {
     let line = open_line(draft, memory, carrier)?;
     for turn in turns {
@@ -37,7 +37,7 @@ pub fn run_shared<C: Carrier, K: SharedCoin, I: Item>(
     coin: &K,
     turns: &[Turn<I>],
 ) -> Result<Line, (Refusal, Draft)>
-    ensures { RanShared I.Item.packed draft (C.Carrier.capacity carrier.old) (K.Coin.shows coin.now) (held memory.old) (C.Carrier.waiting carrier.old) turns.now result (held memory.new) (C.Carrier.waiting carrier.new) }
+    ensures { RanShared I.Item.ok I.Item.packed I.Item.unpacked draft (C.Carrier.capacity carrier.old) (K.Coin.shows coin.now) (held memory.old) (C.Carrier.waiting carrier.old) turns.now result (held memory.new) (C.Carrier.waiting carrier.new) }
 {
     // The toss is not used: what it ensures tells the proof that the coin is alike.
     let _ = coin.toss_for_all(0, 1);
