@@ -17,7 +17,13 @@ pub trait Coin {
 // A coin that shows every process the same side. Each has a `toss` of its own that passes on to the other: a shared coin is given as a
 // coin that answers without a process too.
 pub trait SharedCoin: Coin {
+    // The side for a case and a phase, whichever process asks.
+    ghost side: { Self → ℕ → ℕ → CoinSide };
+
     fn toss_for_all(&self, case: u8, phase: u8) -> Side
+        ensures value { result ≡ side self.now case phase }
         ensures answer { (process : ℕ) → result ≡ Self.Coin.shows self.now process case phase }
         ensures alike { Alike (Self.Coin.shows self.now) };
+
+    ghost shared: { (x : Self) (process case phase : ℕ) → Self.Coin.shows x process case phase ≡ side x case phase };
 }

@@ -1,5 +1,5 @@
 // Coins that read their sides off lent bytes, one for each toss: odd means release.
-ghost use Rattle.std.specs.Prelude.{◌≡◌};
+ghost use Rattle.std.specs.Prelude.{◌≡◌, refl};
 ghost use Rattle.coin.specs.Sides.{row_side, own_side, dealer_side};
 
 use crate::coins::{Coin, SharedCoin};
@@ -77,6 +77,10 @@ impl Coin for DealerStrip<'_> {
 }
 
 impl SharedCoin for DealerStrip<'_> {
+    ghost side = { λ s. dealer_side s.bytes.now s.phases };
+
+    ghost shared = { λ x process case phase. refl };
+
     fn toss_for_all(&self, case: u8, phase: u8) -> Side {
         side_at(self.bytes, u16::from(case), self.phases, phase)
     }

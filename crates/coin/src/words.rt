@@ -1,5 +1,5 @@
 // A coin that reads its sides off the bits of a word, 16 to a case, from the lowest and round again: 1 means release.
-ghost use Rattle.std.specs.Prelude.{◌≡◌};
+ghost use Rattle.std.specs.Prelude.{◌≡◌, refl};
 ghost use Rattle.coin.specs.Sides.{word_side};
 
 use crate::coins::{Coin, SharedCoin};
@@ -28,6 +28,10 @@ impl Coin for WordCoin {
 }
 
 impl SharedCoin for WordCoin {
+    ghost side = { λ s. word_side s.word };
+
+    ghost shared = { λ x process case phase. refl };
+
     fn toss_for_all(&self, case: u8, phase: u8) -> Side {
         phase.checked_sub(1).map_or(Side::Keep, |past| {
             let bit = (16 * u32::from(case) + u32::from(past)) % 64;

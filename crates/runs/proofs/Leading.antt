@@ -4,6 +4,7 @@ use mathlib.Core.List.{map-append, reverse-append}
 use Rattle.std.proofs.lemmas.List.{take_more, take_all}
 use Rattle.protocol.specs.declared.messages.Message.{Message}
 use Rattle.protocol.specs.declared.messages.Subject.TheVariants.{Item}
+use Rattle.protocol.specs.declared.votes.Side.{Side}
 use Rattle.plan.specs.Kinds.{Line}
 use Rattle.memory.specs.Contents.{Held}
 use Rattle.item.specs.Laws.{Faithful}
@@ -11,7 +12,7 @@ use Rattle.rules.specs.Runs.{Event, Coin, Straight, at_opening, one_more, turn_o
 use Rattle.rules.specs.Promises.{Luck, Promises}
 use Rattle.runs.specs.declared.turns.Turn.{Turn}
 use Rattle.runs.specs.Performed.{asked}
-use Rattle.runs.specs.Ran.{Led, Values, SharedLuck}
+use Rattle.runs.specs.Ran.{Led, Values, Shared, SharedLuck}
 
 module _ {I : Type 0} (packed : I → ℕ) (line : Line) (coin : Coin) (turns : List (Turn I)) where
   pub led_none : (capacity : ℕ) (h : Held) (ws : List Message) → ws ≡ [] → Led packed line capacity coin (take 0 turns) h h ws
@@ -43,6 +44,6 @@ values ok packed unpacked faithful line coin es h ws p = record {
   announced = λ rest i j k value fine ci cj x. (p.recorded.kept (Item i k) j (packed value) cj ((p.rest rest).announced i j k (packed value) ci cj x), faithful.full value fine);
 }
 
--- what a coin that shows all the same decides
-pub shared_luck : (line : Line) (coin : Coin) (es : List Event) → ((i j c k : ℕ) → coin i c k ≡ coin j c k) → Luck line coin es → SharedLuck line coin es
-shared_luck line coin es alike luck c k process first only i ci ended = luck c k (coin process c k) first (λ o co. alike o process c k) only i ci ended
+-- what a shared coin decides
+pub shared_luck : (line : Line) (coin : Coin) (side : ℕ → ℕ → Side) (es : List Event) → Shared coin side → Luck line coin es → SharedLuck line side es
+shared_luck line coin side es shared luck c k first only i ci ended = luck c k (side c k) first (λ o co. shared o c k) only i ci ended

@@ -48,15 +48,20 @@ abbrev pub Ran : {I : Type 0} → (I → Type 0) → (I → ℕ) → (ℕ → Op
 Ran ok packed unpacked draft capacity coin h ws turns (Ok line) next left = Made ok packed unpacked draft h ws line capacity coin turns next left
 Ran ok packed unpacked draft capacity coin h ws turns (Err refused) next left = Unopened draft h ws refused.0 refused.1 next left
 
--- A coin that shows all processes the same: a phase of a case that forces no correct process but to the side that the
--- coin shows decides this side for each correct process that ends the next phase.
-abbrev pub SharedLuck : Line → Coin → List Event → Type 0
-SharedLuck line coin es = (c k process : ℕ) → 1 ≤ k → ((o : ℕ) (u : Side) → Correct line o → Forced es o c k u → u ≡ coin process c k) → (i : ℕ) → Correct line i → Ended es i c (k + 1) → (l : ℕ) × Decided es i c (coin process c k) l
+-- A phase of a case that forces no correct process but to the side that a shared coin shows decides this side for each
+-- correct process that ends the next phase.
+abbrev pub SharedLuck : Line → (ℕ → ℕ → Side) → List Event → Type 0
+SharedLuck line side es = (c k : ℕ) → 1 ≤ k → ((o : ℕ) (u : Side) → Correct line o → Forced es o c k u → u ≡ side c k) → (i : ℕ) → Correct line i → Ended es i c (k + 1) → (l : ℕ) × Decided es i c (side c k) l
 
-pub record MadeShared {I : Type 0} (ok : I → Type 0) (packed : I → ℕ) (unpacked : ℕ → Option I) (draft : Draft) (h : Held) (ws : List Message) (line : Line) (capacity : ℕ) (coin : Coin) (turns : List (Turn I)) (next : Held) (left : List Message) : Type 0 where
+-- the coin shows every process this side
+abbrev pub Shared : Coin → (ℕ → ℕ → Side) → Type 0
+Shared coin side = (process case phase : ℕ) → coin process case phase ≡ side case phase
+
+pub record MadeShared {I : Type 0} (ok : I → Type 0) (packed : I → ℕ) (unpacked : ℕ → Option I) (draft : Draft) (h : Held) (ws : List Message) (line : Line) (capacity : ℕ) (coin : Coin) (side : ℕ → ℕ → Side) (turns : List (Turn I)) (next : Held) (left : List Message) : Type 0 where
   pub made : Made ok packed unpacked draft h ws line capacity coin turns next left
-  pub luck : SharedLuck line coin made.led.events
+  pub shared : Shared coin side
+  pub luck : SharedLuck line side made.led.events
 
-abbrev pub RanShared : {I : Type 0} → (I → Type 0) → (I → ℕ) → (ℕ → Option I) → Draft → ℕ → Coin → Held → List Message → List (Turn I) → Result Line (Refusal × Draft) → Held → List Message → Type 0
-RanShared ok packed unpacked draft capacity coin h ws turns (Ok line) next left = MadeShared ok packed unpacked draft h ws line capacity coin turns next left
-RanShared ok packed unpacked draft capacity coin h ws turns (Err refused) next left = Unopened draft h ws refused.0 refused.1 next left
+abbrev pub RanShared : {I : Type 0} → (I → Type 0) → (I → ℕ) → (ℕ → Option I) → Draft → ℕ → Coin → (ℕ → ℕ → Side) → Held → List Message → List (Turn I) → Result Line (Refusal × Draft) → Held → List Message → Type 0
+RanShared ok packed unpacked draft capacity coin side h ws turns (Ok line) next left = MadeShared ok packed unpacked draft h ws line capacity coin side turns next left
+RanShared ok packed unpacked draft capacity coin side h ws turns (Err refused) next left = Unopened draft h ws refused.0 refused.1 next left

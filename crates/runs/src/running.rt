@@ -29,7 +29,7 @@ pub fn run<C: Carrier, K: Coin, I: Item>(
     Ok(line)
 }
 
-// The same over a coin that shows every process the same, and so decides.
+// The same over a coin that shows every process the same side, and so decides.
 pub fn run_shared<C: Carrier, K: SharedCoin, I: Item>(
     draft: Draft,
     memory: &mut Memory,
@@ -37,9 +37,7 @@ pub fn run_shared<C: Carrier, K: SharedCoin, I: Item>(
     coin: &K,
     turns: &[Turn<I>],
 ) -> Result<Line, (Refusal, Draft)>
-    ensures { RanShared I.Item.ok I.Item.packed I.Item.unpacked draft (C.Carrier.capacity carrier.old) (K.Coin.shows coin.now) (held memory.old) (C.Carrier.waiting carrier.old) turns.now result (held memory.new) (C.Carrier.waiting carrier.new) }
+    ensures { RanShared I.Item.ok I.Item.packed I.Item.unpacked draft (C.Carrier.capacity carrier.old) (K.Coin.shows coin.now) (K.SharedCoin.side coin.now) (held memory.old) (C.Carrier.waiting carrier.old) turns.now result (held memory.new) (C.Carrier.waiting carrier.new) }
 {
-    // The toss is not used: what it ensures tells the proof that the coin is alike.
-    let _ = coin.toss_for_all(0, 1);
     run(draft, memory, carrier, coin, turns)
 }
