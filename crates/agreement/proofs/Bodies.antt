@@ -1,7 +1,8 @@
 -- Bodies that stand once they are set.
 use Rattle.std.proofs.Common.{◌≡◌, ℕ, Bool, true, false, cond, eqb, ◌⊎◌, is_some as option_is_some, Some, None, Option, sym, refl, ap, inl, inr, ⊎_elim}
 use Rattle.std.proofs.lemmas.Bool.{both_ways, eqb-true, eq-eqb}
-use Rattle.agreement.specs.Records.{has, when, hear}
+use Rattle.protocol.specs.Heard.{has}
+use Rattle.agreement.specs.Records.{when, hear}
 
 pub none_some : (o : Option ℕ) (b : ℕ) → o ≡ None → o ≡ Some b → ⊥
 none_some o b p q = cc

@@ -2,7 +2,8 @@
 use Rattle.std.proofs.Common.{◌≡◌, ℕ, zero, suc, ◌+◌, ◌≤◌, Bool, true, false, cond, ◌&&◌, ◌||◌, sym, refl, subst, arith}
 use Rattle.protocol.specs.Counting.{below}
 use Rattle.protocol.proofs.Counting.{below_zero, below_monotone}
-use Rattle.agreement.specs.Worlds.{Measure, Sound, Lawful, counted}
+use Rattle.agreement.specs.Worlds.{Measure, Lawful, counted}
+use Rattle.protocol.specs.Thresholds.{Sound}
 
 pub below_all : (n : ℕ) → below n (λ _. true) ≡ n
 unfolding below

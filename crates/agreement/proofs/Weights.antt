@@ -2,7 +2,8 @@
 use Rattle.std.proofs.Common.{◌≡◌, ℕ, zero, suc, ◌+◌, ◌-◌, ◌<◌, ◌≤◌, Bool, true, false, not, ◌&&◌, ◌||◌, ◌⊎◌, Some, Option, refl, ap, ◌∙◌, inl, inr, ⊎_elim, arith}
 use Rattle.std.proofs.lemmas.Bool.{both_ways, not-true, not_from_false, and_parts, and_from, or_cases, or_left, or_right, cases_Bool, cases_lt}
 use Rattle.agreement.specs.Worlds.{World, Correct, Lawful}
-use Rattle.agreement.specs.Records.{has, support}
+use Rattle.protocol.specs.Heard.{has}
+use Rattle.agreement.specs.Records.{support}
 use Rattle.agreement.proofs.Bodies.{has_some, some_has, some_once}
 
 -- some k below n passes the test, or none does

@@ -5,7 +5,8 @@ use Rattle.protocol.specs.declared.messages.Subject.TheVariants.{Item}
 use Rattle.protocol.specs.Bags.{count}
 use Rattle.protocol.specs.Counting.{below}
 use Rattle.protocol.specs.Messages.{originator_of}
-use Rattle.agreement.specs.Worlds.{World, Correct, Sound, Lawful, counted}
+use Rattle.agreement.specs.Worlds.{World, Correct, Lawful, counted}
+use Rattle.protocol.specs.Thresholds.{Sound}
 use Rattle.agreement.specs.Runs.{State, Turn, Run}
 
 abbrev pub accepted_at : State → ℕ → Subject → Option ℕ

@@ -1,5 +1,6 @@
 -- What a process keeps of one broadcast, and what an arriving message makes of it.
 use Rattle.std.specs.Prelude.{ℕ, Bool, false, cond, Some, None, Option, ◌==◌, nat_le}
+use Rattle.protocol.specs.Heard.{has}
 use Rattle.protocol.specs.declared.messages.Step.{Step}
 use Rattle.protocol.specs.declared.messages.Step.TheVariants.{Initial, Echo, Ready}
 use Rattle.agreement.specs.Worlds.{World}
@@ -17,10 +18,6 @@ pub record Rec : Type 0 where
 abbrev pub first : Option ℕ → ℕ → Option ℕ
 first None b = Some b
 first (Some c) b = Some c
-
-abbrev pub has : Option ℕ → ℕ → Bool
-has None b = false
-has (Some c) b = c == b
 
 -- if q holds, body b is set where nothing stands
 abbrev pub when : Bool → Option ℕ → ℕ → Option ℕ

@@ -1,6 +1,7 @@
 -- Who takes part, who is faulty, how sets of processes are weighed, and from which weight on a process acts.
 use Rattle.std.specs.Prelude.{◌≡◌, ℕ, ◌+◌, ◌-◌, ◌*◌, ◌<◌, ◌≤◌, Bool, true, false, ◌&&◌, ◌||◌}
 use Rattle.protocol.specs.Counting.{below}
+use Rattle.protocol.specs.Thresholds.{Sound}
 
 pub record World : Type 0 where
   -- the processes are 0 to n - 1
@@ -22,15 +23,6 @@ pub record Measure (n : ℕ) (weight : (ℕ → Bool) → ℕ) : Type 0 where
   pub empty : weight (λ _. false) ≡ 0
   pub monotone : (p q : ℕ → Bool) → ((k : ℕ) → k < n → p k ≡ true → q k ≡ true) → weight p ≤ weight q
   pub modular : (p q : ℕ → Bool) → weight p + weight q ≡ weight (λ k. p k || q k) + weight (λ k. p k && q k)
-
--- What agreement needs of thresholds, where all weigh n and the faulty ones at most t: two echo quorums share a correct
--- process, and the correct processes alone reach each threshold.
-pub record Sound (n t echo ready accept : ℕ) : Type 0 where
-  pub meet : n + t < 2 * echo
-  pub echoes : echo ≤ n - t
-  pub one_correct : t < ready
-  pub enough : ready + t ≤ accept
-  pub accepts : accept ≤ n - t
 
 pub record Lawful (w : World) : Type 0 where
   -- a message has room for the names 0 to 15

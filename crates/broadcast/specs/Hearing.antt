@@ -1,6 +1,7 @@
 -- Hearing echoes and readies, and counting them. Assumes nothing.
-use Rattle.std.specs.Prelude.{ℕ, ◌+◌, Bool, false, List, Some, None, Option, ◌==◌, slice_index_or, slice_set}
+use Rattle.std.specs.Prelude.{ℕ, ◌+◌, Bool, List, Some, None, Option, slice_index_or, slice_set}
 use Rattle.protocol.specs.Counting.{below}
+use Rattle.protocol.specs.Heard.{has}
 use Rattle.protocol.specs.declared.messages.Message.{Message}
 use Rattle.protocol.specs.declared.messages.Step.{Step}
 use Rattle.protocol.specs.declared.messages.Step.TheVariants.{Initial, Echo, Ready}
@@ -16,8 +17,7 @@ abbrev pub hear : ℕ → ℕ → List (Option ℕ) → List (Option ℕ)
 hear k b xs = hear_over (slice_index_or xs k None) k b xs
 
 abbrev pub says : ℕ → Option ℕ → Bool
-says b None = false
-says b (Some a) = a == b
+says b o = has o b
 
 -- how many of the n places from the first on hold b
 abbrev pub saying : ℕ → ℕ → ℕ → List (Option ℕ) → ℕ

@@ -5,7 +5,7 @@ use Rattle.protocol.specs.declared.votes.Ballot.{Ballot}
 use Rattle.protocol.specs.Counting.{below}
 use Rattle.protocol.specs.Numbers.{ballot_number}
 use Rattle.protocol.proofs.Counting.{below_le, below_zero}
-use Rattle.agreement.specs.Records.{has}
+use Rattle.protocol.specs.Heard.{has}
 use Rattle.agreement.proofs.Bodies.{has_some, some_has, some_once}
 use Rattle.agreement.proofs.Counts.{below_measure}
 use Rattle.agreement.proofs.Weights.{find}

@@ -8,7 +8,7 @@ use Rattle.protocol.specs.Counting.{below}
 use Rattle.protocol.specs.declared.votes.Kind.{Kind}
 use Rattle.protocol.specs.declared.votes.Kind.TheVariants.{First, Second, Third}
 use Rattle.protocol.specs.Numbers.{ballot_number, vote, proposal}
-use Rattle.agreement.specs.Records.{has}
+use Rattle.protocol.specs.Heard.{has}
 
 -- the ballots accepted in a case, as numbers: by originator, then by round
 abbrev pub Accepted : Type 0

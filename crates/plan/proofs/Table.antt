@@ -1,8 +1,9 @@
 -- The sheet's rule at each of its rows, by tests that antt computes. Assumes nothing.
 use Rattle.std.proofs.Common.{◌≡◌, ℕ, zero, suc, ◌+◌, ◌-◌, ◌*◌, ◌/◌, ◌<◌, ◌≤◌, Bool, true, ◌&&◌, eqb, ltb, leb, List, [], ◌∷◌, ◌++◌, get_or, sym, refl, subst}
 use Rattle.std.proofs.lemmas.Bool.{and_parts, eqb-true, ltb-true, leb-true}
+use Rattle.protocol.specs.Thresholds.{Sound}
 use Rattle.plan.specs.declared.plans.Thresholds.{Thresholds}
-use Rattle.plan.specs.Sheet.{rows_before, row_of, thresholds_of, Sound}
+use Rattle.plan.specs.Sheet.{rows_before, row_of, thresholds_of}
 use Rattle.plan.proofs.Pairs.{pairs, pairs_at}
 
 -- the first row of each n up to k, and the rows

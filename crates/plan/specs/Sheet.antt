@@ -5,14 +5,6 @@ use Rattle.plan.specs.declared.plans.Thresholds.{Thresholds}
 abbrev pub thresholds_of : ℕ → ℕ → Thresholds
 thresholds_of n t = record { echo = (n + t) / 2 + 1; ready = t + 1; accept = 2 * t + 1 }
 
--- What agreement rests on: two echo quorums share a correct process, and the correct processes alone reach each threshold.
-pub record Sound (n t echo ready accept : ℕ) : Type 0 where
-  pub meet : n + t < 2 * echo
-  pub echoes : echo ≤ n - t
-  pub one_correct : t < ready
-  pub enough : ready + t ≤ accept
-  pub accepts : accept ≤ n - t
-
 -- the rows of a sheet for fewer than n processes: m processes have one for each t with 3t < m
 abbrev pub rows_before : ℕ → ℕ
 rows_before zero = 0

@@ -1,7 +1,9 @@
 pub mod Bags
 pub mod Counting
+pub mod Heard
 pub mod Messages
 pub mod Numbers
 pub mod Phases
 pub mod Refusals
 pub mod Sending
+pub mod Thresholds

@@ -1,7 +1,7 @@
 -- What a message makes of the record that a process keeps of a subject, in memory and in the machine of broadcasts.
 use Rattle.std.proofs.Common.{◌≡◌, ℕ, ◌+◌, ◌<◌, ◌≤◌, false, eqb, leb, List, length, get_or, Some, None, Option, sym, refl, ap, ◌∙◌, subst, inl, arith}
 use Rattle.std.proofs.lemmas.Bool.{both_ways, leb-true, le-leb}
-use Rattle.agreement.specs.Records.{has}
+use Rattle.protocol.specs.Heard.{has}
 use Rattle.protocol.specs.Messages.{originator_of}
 use Rattle.protocol.specs.declared.messages.Message.{Message}
 use Rattle.protocol.specs.declared.messages.Step.{Step}
@@ -13,7 +13,7 @@ use Rattle.memory.specs.Places.{echoes, readies, placed}
 use Rattle.memory.specs.declared.records.Stage.{Stage}
 use Rattle.memory.specs.declared.records.Stage.TheVariants.{Silent, Echoed, Readied}
 use Rattle.memory.proofs.Grid.{laid}
-use Rattle.broadcast.specs.Hearing.{says, saying, listened, agreeing}
+use Rattle.broadcast.specs.Hearing.{saying, listened, agreeing}
 use Rattle.broadcast.specs.Receiving.{heard}
 use Rattle.broadcast.specs.Stages.{turn, by_step, on_echo, on_ready}
 use Rattle.agreement.specs.Worlds.{World, counted}
@@ -23,11 +23,6 @@ use Rattle.agreement.specs.Runs.{spread}
 use Rattle.rules.specs.Turns.{faulty}
 use Rattle.rules.proofs.Rows.{heard_row, heard_elsewhere}
 use Rattle.rules.proofs.Stages.{Shown, silent, echoed, readied, accepted, Follows, initial_follows, echo_follows, ready_follows}
-
--- a place in memory says b where the machine has b
-says_has : (b : ℕ) (o : Option ℕ) → says b o ≡ has o b
-says_has b None = refl
-says_has b (Some a) = refl
 
 -- the line as a world of processes
 abbrev pub world_of : Line → World
@@ -60,7 +55,7 @@ module _ (line : Line) (q : ℕ) (xs : List (Option ℕ)) (fits : readies line.p
     -- who is counted in memory is who supports the body
     counts : (from b : ℕ) (ys : List (Option ℕ)) (k : ℕ → Option ℕ) → ((j : ℕ) → j < line.plan.n → get_or ys (from + j) None ≡ k j) → support (world_of line) k b ≡ saying line.plan.n from b ys
     unfolding support
-    counts from b ys k row = below_alike line.plan.n _ _ (λ j lt. ap (λ o. has o b) (sym (row j lt)) ∙ sym (says_has b (get_or ys (from + j) None)))
+    counts from b ys k row = below_alike line.plan.n _ _ (λ j lt. ap (λ o. has o b) (sym (row j lt)))
 
     by_steps : (step : Step) (x : Stage) (e r : Option ℕ) → Shown x e r None → Follows line.plan.n m (by_step (thresholds_of line.plan.n line.plan.t) m (agreeing line.plan.n (placed line.plan q) m step (listened (placed line.plan q) m step xs)) x step) x e r None (next step e r None f g).echoed (next step e r None f g).readied (next step e r None f g).accepted
     by_steps Initial x e r s = initial_follows line.plan.n m (eqb m.sender (originator_of m.subject)) x e r s

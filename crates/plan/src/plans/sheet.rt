@@ -1,6 +1,7 @@
 // The constant sheet of thresholds.
 ghost use Rattle.std.specs.Prelude.{◌≡◌, ◌<◌};
-ghost use Rattle.plan.specs.Sheet.{row_of, thresholds_of, Sound};
+ghost use Rattle.protocol.specs.Thresholds.{Sound};
+ghost use Rattle.plan.specs.Sheet.{row_of, thresholds_of};
 
 use crate::plans::{Plan, Thresholds};
 
