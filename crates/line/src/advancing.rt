@@ -96,7 +96,7 @@ fn said<K: Coin>(next: Option<Ballot>, coin: &K, process: u8, case: u8, phase: u
     next.unwrap_or_else(|| Ballot::vote(coin.toss(process, case, phase)))
 }
 
-// Sends the next ballot, if there is one.
+// Sends the next ballot, if there is one. No `map_or`, since a proof does not see there what the closure posts.
 fn send_next<C: Carrier>(line: &Line, carrier: &mut C, next: Option<Subject>, ballot: Ballot) -> u64
     requires sender { IfSome next (λ s. originator_of s < 16) }
     requires room { spacious line.now next (C.Carrier.capacity carrier.old) (C.Carrier.waiting carrier.old) ≡ true }
