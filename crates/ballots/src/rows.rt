@@ -15,7 +15,7 @@ use protocol::{PROCESSES, Subject};
 use std::array;
 
 // The valid ballots of a round, the first one being round 1. There are none if the plan has not the process, the case
-// or the round, or if the memory is too small for the plan.
+// or the round, or if the memory is too small for the plan: a call has no precondition, and an empty row allows nothing.
 pub fn valid_ballots(
     plan: &Plan,
     memory: &Memory,

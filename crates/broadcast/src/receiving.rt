@@ -57,6 +57,7 @@ fn hear(row: &mut [Option<u64>], message: &Message) -> usize
     count_saying(row, message.body())
 }
 
+// A loop over what was heard: docs/DECISIONS.md gives this shape.
 fn count_saying(row: &[Option<u64>], body: u64) -> usize
     ensures { result ≡ count_by (says body) row.now }
 {

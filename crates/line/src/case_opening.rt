@@ -15,7 +15,7 @@ use plan::Line;
 use protocol::{Refusal, Subject};
 
 // A correct process votes in the first round of a case: 0 is keep, 1 release. The vote is a number, as a script can hold it, and
-// any other is refused. Answers how many messages were posted.
+// any other is refused; it is sent as it is, so it is not turned to a side and back. Answers how many messages were posted.
 pub fn open_case<C: Carrier>(
     line: &Line,
     memory: &mut Memory,

@@ -7,8 +7,8 @@ use memory::Memory;
 use plan::{Draft, Line};
 use protocol::Refusal;
 
-// Clears the memory and makes the draft a line. A refusal gives the draft back: a pair, as Rust's own calls give a value back with
-// an error, and one pattern takes it apart.
+// Clears the memory and makes the draft a line. A refusal gives the draft back, in a pair as slips do: whoever goes on needs both
+// parts, and a struct would be taken apart by the same pattern.
 pub fn open_line<C: Carrier>(
     draft: Draft,
     memory: &mut Memory,

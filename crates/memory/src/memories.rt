@@ -1,5 +1,5 @@
-// The memory of a line: clearing it, and reading and writing its places. Reading behind the last place gives what a cleared
-// place holds, writing there does nothing.
+// The memory of a line: clearing it, and reading and writing its places. Calls have no precondition, so reading behind the last
+// place gives what a cleared place holds, and writing there does nothing.
 ghost use Rattle.std.specs.Prelude.{◌≡◌, slice_index_or, slice_set};
 ghost use Rattle.memory.specs.Contents.{wiped};
 
@@ -21,6 +21,7 @@ fn wipe<T: Copy>(places: &mut [T], need: usize, blank: T)
     ensures { places.new ≡ wiped need blank places.old }
 {
     let end = need.min(places.len());
+    // Not by fill: of a Copy type in general std does not say that its clone cannot fail.
     for place in places[..end].iter_mut() {
         *place = blank;
     }

@@ -2,7 +2,7 @@
 ghost use Rattle.std.specs.Prelude.{◌≡◌, ◌^◌, ◌<◌, ◌≤◌, true, count_ones};
 
 use crate::plans::Plan;
-use protocol::Refusal;
+use protocol::{PROCESSES, Refusal};
 use std::marker::PhantomData;
 
 pub mod lines;
@@ -44,7 +44,7 @@ impl<S> Marked<S> {
         ensures value { result ≡ marked self.now.marks process }
         ensures within { result ≡ true → process < self.now.plan.n }
     {
-        process < 16 && (self.marks >> process) & 1 == 1
+        process < PROCESSES && (self.marks >> process) & 1 == 1
     }
 }
 

@@ -1,11 +1,9 @@
 // Plans: making one and reading its numbers.
 ghost use Rattle.std.specs.Prelude.{◌≡◌, ◌-◌, ◌*◌, ◌<◌, ◌≤◌};
 
-use protocol::Refusal;
+use protocol::{PROCESSES, Refusal};
 
 pub mod sheet;
-
-const MOST_PROCESSES: u64 = 16;
 
 const MOST_SERIALS: u64 = 32;
 
@@ -53,7 +51,7 @@ impl Plan {
     pub fn new(n: u64, t: u64, serials: u64, cases: u64, phases: u64) -> Result<Plan, Refusal>
         ensures { result ≡ planned n t serials cases phases }
     {
-        if !(1..=MOST_PROCESSES).contains(&n) || t > (n - 1) / 3 {
+        if !(1..=PROCESSES).contains(&n) || t > (n - 1) / 3 {
             return Err(Refusal::PlanOutOfRange);
         }
         if serials > MOST_SERIALS || cases > MOST_CASES || !(1..=MOST_PHASES).contains(&phases) {
@@ -122,7 +120,7 @@ impl Plan {
     {
         let n = self.n as usize;
         let cases = self.cases as usize;
-        let rounds = 3 * self.phases as usize;
+        let rounds = self.rounds() as usize;
         let subjects = self.serials as usize + rounds * cases;
         let broadcast_records = n * n * subjects;
         Needs {

@@ -29,7 +29,7 @@ pub fn run<C: Carrier, K: Coin, I: Item>(
     Ok(line)
 }
 
-// The same over a coin that shows every process the same side, and so decides.
+// The same over a coin that shows every process the same side, and so decides: it runs alike and promises more.
 pub fn run_shared<C: Carrier, K: SharedCoin, I: Item>(
     draft: Draft,
     memory: &mut Memory,

@@ -32,8 +32,8 @@ pub fn put_back(
     give_back(line, memory, slip, Slip::Absent)
 }
 
-// Ends the slip and leaves its state. A refusal gives the slip back: a pair, as Rust's own calls give a value back with an error, and
-// one pattern takes it apart.
+// Ends the slip and leaves its state. A refusal gives the slip back, in a pair: a slip is linear, so that no conversion could drop it,
+// and it has to be taken out by a pattern.
 fn give_back(
     line: &Line,
     memory: &mut Memory,

@@ -8,7 +8,7 @@ use crate::plans::{Plan, Thresholds};
 // The row of n processes of which none is faulty, for n from 1. The rows for one more faulty process each follow it.
 const FIRST_ROW: [u8; 16] = [0, 1, 2, 3, 5, 7, 9, 12, 15, 18, 22, 26, 30, 35, 40, 45];
 
-// Echo, ready and accept, a row for each n and t with 3t < n.
+// Echo, ready and accept: one sheet with a row for each n and t with 3t < n, as the rules have it, and not a table of tables.
 const SHEET: [[u8; 3]; 51] = [
     // n = 1
     [1, 1, 1],

@@ -9,14 +9,14 @@ masked : (m i : ℕ) → eqb (bit_and (m / 2 ^ i) 1) 1 ≡ marked m i
 unfolding marked
 masked m i = ap (λ (x : ℕ). eqb x 1) (shr_and_one m i)
 
-pub returns-then-process-lt16 : goal.returns-then-process-lt16
-returns-then-process-lt16 g c =
+pub returns-then-process-lt-PROCESSES : goal.returns-then-process-lt-PROCESSES
+returns-then-process-lt-PROCESSES g c =
     let self = c.args.self.now in
     let bit = masked self.marks c.args.process in
     record { value = bit; within = λ set. marked_inside _ _ _ self.inside (sym bit ∙ set) }
 
-pub returns-else-process-lt16-clause-value : goal.returns-else-process-lt16-clause-value
-returns-else-process-lt16-clause-value g c =
+pub returns-else-process-lt-PROCESSES-clause-value : goal.returns-else-process-lt-PROCESSES-clause-value
+returns-else-process-lt-PROCESSES-clause-value g c =
     let self = c.args.self.now in
-    let past = c.if-process-lt16.false in
+    let past = c.if-process-lt-PROCESSES.false in
     le-ltb c.args.process 16 past ∙ sym (marked_past _ _ _ self.inside (omega (arith, self.plan.few, past)))
