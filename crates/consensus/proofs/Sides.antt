@@ -1,5 +1,5 @@
 -- Ballots of different sides differ, and the kinds of rounds follow one another.
-use Rattle.std.proofs.Common.{◌≡◌, ℕ, zero, suc, ◌<◌, ◌≤◌, Bool, cond, refl, ap, arith}
+use Rattle.std.proofs.Common.{◌≡◌, ℕ, zero, suc, ◌<◌, ◌≤◌, Bool, cond, sym, refl, ap, arith}
 use Rattle.std.proofs.lemmas.Bool.{lt-ltb, le-ltb}
 use Rattle.protocol.specs.declared.votes.Side.{Side}
 use Rattle.protocol.specs.declared.votes.Side.TheVariants.{Keep, Release}
@@ -19,17 +19,18 @@ pub both_sides : (P : Side → Type 0) → P Keep → P Release → (v : Side) �
 both_sides P a b Keep = a
 both_sides P a b Release = b
 
+-- what differs for the sides tells the side
+told_apart : (f : Side → ℕ) → (f Keep ≡ f Release → ⊥) → (u v : Side) → f u ≡ f v → u ≡ v
+told_apart f differ Keep Keep e = refl
+told_apart f differ Keep Release e = absurd (differ e)
+told_apart f differ Release Keep e = absurd (differ (sym e))
+told_apart f differ Release Release e = refl
+
 pub vote_side : (u v : Side) → ballot_number (vote u) ≡ ballot_number (vote v) → u ≡ v
-vote_side Keep Keep e = refl
-vote_side Keep Release e = absurd (omega arith)
-vote_side Release Keep e = absurd (omega arith)
-vote_side Release Release e = refl
+vote_side = told_apart (λ v. ballot_number (vote v)) (λ e. cc)
 
 pub proposal_side : (u v : Side) → ballot_number (proposal u) ≡ ballot_number (proposal v) → u ≡ v
-proposal_side Keep Keep e = refl
-proposal_side Keep Release e = absurd (omega arith)
-proposal_side Release Keep e = absurd (omega arith)
-proposal_side Release Release e = refl
+proposal_side = told_apart (λ v. ballot_number (proposal v)) (λ e. cc)
 
 pub side_of : (q : Kind) (u v : Side) → ballot_number (ballot_for q u) ≡ ballot_number (ballot_for q v) → u ≡ v
 side_of First = vote_side

@@ -1,5 +1,5 @@
 -- What sending does to a carrier. Assumes nothing.
-use Rattle.std.specs.Prelude.{◌≡◌, ℕ, ◌+◌, ◌*◌, cond, List, [], ◌++◌, Some, None, Option, nat_lt}
+use Rattle.std.specs.Prelude.{◌≡◌, ℕ, ◌+◌, ◌*◌, ◌≤◌, cond, List, [], ◌++◌, length, Some, None, Option, nat_lt}
 use Rattle.protocol.specs.Bags.{Same}
 use Rattle.protocol.specs.Messages.{originator_of}
 use Rattle.protocol.specs.Numbers.{ballot_number}
@@ -11,6 +11,10 @@ use Rattle.protocol.specs.declared.messages.Subject.TheVariants.{Ballot}
 use Rattle.protocol.specs.declared.votes.Ballot.{Ballot as BallotSaid}
 use Rattle.plan.specs.Kinds.{Line}
 use Rattle.carrier.specs.Posting.{Posts}
+
+-- beside the messages that wait there is room for k more
+abbrev pub HasRoom : ℕ → ℕ → List Message → Type 0
+HasRoom k capacity ws = length ws + k ≤ capacity
 
 -- the messages were posted in this order, and wait with the others
 pub record Sent {C : Type 0} (waiting : C → List Message) (capacity : C → ℕ) (posting : C → Message → C → Type 0) (before : C) (ms : List Message) (after : C) : Type 0 where

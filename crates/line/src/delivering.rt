@@ -1,10 +1,10 @@
 // Delivering a message.
-ghost use Rattle.std.specs.Prelude.{◌≡◌, ◌+◌, ◌*◌, ◌≤◌, length};
+ghost use Rattle.std.specs.Prelude.{◌≡◌, ◌*◌, length};
 ghost use Rattle.memory.specs.Contents.{held};
 ghost use Rattle.rules.specs.Turns.{replies};
 ghost use Rattle.rules.specs.Answers.{Delivery};
 ghost use Rattle.line.specs.Checks.{Roomy};
-ghost use Rattle.line.specs.Sent.{Sent};
+ghost use Rattle.line.specs.Sent.{Sent, HasRoom};
 
 use crate::checks::check_process;
 use crate::sending::pass_on;
@@ -58,7 +58,7 @@ fn check_room_for_replies<C: Carrier>(line: &Line, carrier: &C, process: u64) ->
 
 // Sends what the reaction says, and answers how many messages these are.
 fn reply<C: Carrier>(line: &Line, carrier: &mut C, message: &Message, reaction: Reaction) -> u64
-    requires { length (C.Carrier.waiting carrier.old) + 2 * line.now.plan.n ≤ C.Carrier.capacity carrier.old }
+    requires { HasRoom (2 * line.now.plan.n) (C.Carrier.capacity carrier.old) (C.Carrier.waiting carrier.old) }
     ensures sent { Sent C.Carrier.waiting C.Carrier.capacity C.Carrier.posting carrier.old (replies line.now.plan.n message.now reaction) carrier.new }
     ensures count { result ≡ length (replies line.now.plan.n message.now reaction) }
 {

@@ -1,9 +1,9 @@
-// Sending to all processes of a line.
-ghost use Rattle.std.specs.Prelude.{◌≡◌, ◌+◌, ◌<◌, ◌≤◌, length};
+// Sending to all processes of a line. That a sender is below 16, as in any message, has no name in the clauses: none is plainer.
+ghost use Rattle.std.specs.Prelude.{◌≡◌, ◌<◌, length};
 ghost use Rattle.protocol.specs.Messages.{originator_of};
 ghost use Rattle.protocol.specs.Sending.{to_all};
 ghost use Rattle.protocol.specs.declared.messages.Step.TheVariants.{Initial};
-ghost use Rattle.line.specs.Sent.{Sent};
+ghost use Rattle.line.specs.Sent.{Sent, HasRoom};
 
 use carrier::Carrier;
 use plan::Line;
@@ -17,7 +17,7 @@ pub(crate) fn send_initials<C: Carrier>(
     body: u64,
 ) -> u64
     requires sender { originator_of subject < 16 }
-    requires room { length (C.Carrier.waiting carrier.old) + line.now.plan.n ≤ C.Carrier.capacity carrier.old }
+    requires room { HasRoom line.now.plan.n (C.Carrier.capacity carrier.old) (C.Carrier.waiting carrier.old) }
     ensures sent { Sent C.Carrier.waiting C.Carrier.capacity C.Carrier.posting carrier.old (to_all line.now.plan.n (originator_of subject) Initial subject body) carrier.new }
     ensures count { result ≡ length (to_all line.now.plan.n (originator_of subject) Initial subject body) }
 {
@@ -32,7 +32,7 @@ pub(crate) fn pass_on<C: Carrier>(
     message: &Message,
     step: Step,
 ) -> u64
-    requires room { length (C.Carrier.waiting carrier.old) + line.now.plan.n ≤ C.Carrier.capacity carrier.old }
+    requires room { HasRoom line.now.plan.n (C.Carrier.capacity carrier.old) (C.Carrier.waiting carrier.old) }
     ensures sent { Sent C.Carrier.waiting C.Carrier.capacity C.Carrier.posting carrier.old (to_all line.now.plan.n message.now.addressee step message.now.subject message.now.body) carrier.new }
     ensures count { result ≡ length (to_all line.now.plan.n message.now.addressee step message.now.subject message.now.body) }
 {
@@ -57,7 +57,7 @@ fn send_to_all<C: Carrier>(
     body: u64,
 ) -> u64
     requires sender { sender < 16 }
-    requires room { length (C.Carrier.waiting carrier.old) + line.now.plan.n ≤ C.Carrier.capacity carrier.old }
+    requires room { HasRoom line.now.plan.n (C.Carrier.capacity carrier.old) (C.Carrier.waiting carrier.old) }
     ensures sent { Sent C.Carrier.waiting C.Carrier.capacity C.Carrier.posting carrier.old (to_all line.now.plan.n sender step subject body) carrier.new }
     ensures count { result ≡ length (to_all line.now.plan.n sender step subject body) }
 {

@@ -1,19 +1,11 @@
 -- The first places of a list, one of them more, and one taken out. Assumes nothing.
-use Rattle.std.proofs.Common.{◌≡◌, ℕ, suc, ◌+◌, ◌-◌, ◌<◌, ◌≤◌, Bool, cond, List, [], ◌∷◌, ◌++◌, length, take, drop, sym, refl, ap, ◌∙◌, add-one, arith}
-use Rattle.std.specs.List.{remove, copy_within, count_by}
+use Rattle.std.proofs.Common.{◌≡◌, ℕ, suc, ◌+◌, ◌-◌, ◌<◌, ◌≤◌, List, ◌++◌, length, take, drop, sym, ap, ◌∙◌, add-one, arith}
+use Rattle.std.specs.List.{remove, copy_within}
 use Rattle.std.proofs.lemmas.List.{append-nil, length-take-le, length-drop, length-append, take_all, take-take, drop-take, drop_all}
-use Rattle.std.proofs.lemmas.List.Sums.{sum_by-cons}
 use Rattle.std.proofs.Math.Seq.{take-append_seam}
-use Rattle.protocol.specs.declared.messages.Message.{Message}
-use Rattle.protocol.specs.Bags.{count}
 
 pub removed_past : {X : Type 0} (xs : List X) (at : ℕ) → length xs ≤ at → remove xs at ≡ xs
 removed_past xs at h = (λ i. take_all at xs h i ++ drop_all (suc at) xs (omega arith) i) ∙ append-nil xs
-
-pub counted_by : (p : Message → Bool) (ms : List Message) → count_by p ms ≡ count p ms
-unfolding count
-counted_by p [] = refl
-counted_by p (m ∷ ms) = sum_by-cons (λ x. cond (p x) 1 0) m ms ∙ ap (λ (n : ℕ). cond (p m) 1 0 + n) (counted_by p ms)
 
 -- those behind `at` moved a place down
 pub closed_up : {X : Type 0} (xs : List X) (at held : ℕ) → at < held → held ≤ length xs → take (held - 1) (copy_within xs (at + 1) held at) ≡ remove (take held xs) at

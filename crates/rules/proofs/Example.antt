@@ -92,6 +92,14 @@ letter step s b = message 0 0 step s b
 abbrev vote : ℕ → Subject
 vote r = Ballot 0 0 r
 
+did : {d : Deed} {h : Held} {sent : List Message} {accepts : Bool} (ws : List Message) → d ≡ done h sent accepts → turns.Done d.refused d.held h d.sent ws (sent ++ ws) (length sent)
+did ws e = record {
+  allowed = ap (λ (x : Deed). x.refused) e;
+  memory = sym (ap (λ (x : Deed). x.held) e);
+  carrier = λ p. sym (ap (λ (x : Deed). count p (x.sent ++ ws)) e);
+  counted = sym (ap (λ (x : Deed). length x.sent) e);
+}
+
 -- the one message that waits is delivered
 abbrev hearing : Message → Held → Deed
 hearing m h =
@@ -103,12 +111,7 @@ hears es m h next sent accepts to e run = after run _ (record {
   rest = [];
   addressee = to;
   taken = λ p. refl;
-  done = record {
-    allowed = ap (λ (x : Deed). x.refused) e;
-    memory = sym (ap (λ (x : Deed). x.held) e);
-    carrier = λ p. sym (ap (λ (x : Deed). count p (x.sent ++ [])) e);
-    counted = sym (ap (λ (x : Deed). length x.sent) e);
-  };
+  done = did [] e;
   answer = sym (ap (λ (x : Deed). x.accepts) e);
 })
 
@@ -149,12 +152,7 @@ goes r b bs left decision step sent next es heard_it by e run =
       forces = refl;
       decision = refl;
       answer = refl;
-      done = record {
-        allowed = ap (λ (x : Deed). x.refused) e;
-        memory = sym (ap (λ (x : Deed). x.held) e);
-        carrier = λ p. sym (ap (λ (x : Deed). count p (x.sent ++ [])) e);
-        counted = sym (ap (λ (x : Deed). length x.sent) e);
-      };
+      done = did [] e;
     })
 
 abbrev votes : Step

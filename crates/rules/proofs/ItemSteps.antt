@@ -1,13 +1,15 @@
 -- Turns on items are turns of the machine of broadcasts, and a refused one changes nothing.
-use Rattle.std.proofs.Common.{◌≡◌, ℕ, suc, ◌+◌, ◌<◌, ◌≤◌, Bool, true, false, cond, ◌&&◌, eqb, List, [], ◌∷◌, ◌++◌, length, get_or, set, Some, None, sym, refl, ap, ◌∙◌, subst, ap₂, subst₂, inl, inr, ⊎_elim, arith, length-set, get_or-set_other, get_or-set_same}
+use Rattle.std.proofs.Common.{◌≡◌, ℕ, suc, ◌+◌, ◌<◌, ◌≤◌, Bool, true, false, cond, ◌&&◌, eqb, List, [], ◌∷◌, ◌++◌, length, get_or, set, Some, None, Option, sym, refl, ap, ◌∙◌, subst, ap₂, subst₂, inl, inr, ⊎_elim, arith, length-set, get_or-set_other, get_or-set_same}
 use Rattle.std.proofs.lemmas.Bool.{both_ways, eqb-true, eqb-false, eq-eqb, and_parts, and_from, lt-ltb, cond-true, cond-false, cases_Bool}
 use Rattle.protocol.specs.Bags.{count, Same}
 use Rattle.protocol.specs.Sending.{to_all}
 use Rattle.protocol.specs.declared.messages.Message.{Message}
 use Rattle.protocol.specs.declared.messages.Step.{Step}
 use Rattle.protocol.specs.declared.messages.Step.TheVariants.{Initial, Echo, Ready}
+use Rattle.protocol.specs.declared.messages.Subject.{Subject}
 use Rattle.protocol.specs.declared.messages.Subject.TheVariants.{Item, Ballot}
 use Rattle.protocol.specs.declared.refusals.Refusal.{Refusal}
+use Rattle.protocol.specs.declared.votes.Side.{Side}
 use Rattle.protocol.proofs.Bags.{count_none, count_cons, count_append}
 use Rattle.plan.specs.Kinds.{Line}
 use Rattle.memory.specs.Contents.{Held, serial_at, with_serial}
@@ -24,7 +26,7 @@ use Rattle.agreement.proofs.Theorem.{lasts}
 use Rattle.consensus.specs.Validity.{Part}
 use Rattle.ballots.specs.Places.{ballots_at}
 use Rattle.rules.specs.Turns.{faulty, refusal, Deliver, reacted, replies, Done}
-use Rattle.rules.specs.Runs.{Event, refused, announced, forged, delivered, Coin, Announces, Delivers, Happens}
+use Rattle.rules.specs.Runs.{Event, refused, announced, forged, delivered, Coin, Announces, Delivers, Happens, Announcing, Accepting, Advancing, Opening, decision_of}
 use Rattle.rules.proofs.Records.{world_of}
 use Rattle.rules.proofs.Ballots.{same_ballots, ballot_accepted, accepted_ballot}
 use Rattle.rules.proofs.Shows.{Shows, as_large, items_on, bodies_on, stranger, AnnounceAllowed, announce_allowed, forge_allowed, deliver_allowed, no_stranger, no_strange_sender, not_stranger}
@@ -33,16 +35,27 @@ use Rattle.rules.proofs.Sending.{in_front}
 use Rattle.rules.proofs.Follows.{Follow, joined_all, known_told, still}
 
 module _ (line : Line) (capacity : ℕ) (coin : Coin) (es : List Event) (h : Held) (ws : List Message) (st : State) (shows : Shows line coin es h ws st) where
+  -- an event that tells nothing and changes no more than what waits
+  quiet : (e : Event) (now : List Message) (next : Held) (left : List Message) → ((i k b : ℕ) → Announcing i k b e → ⊥) → ((i : ℕ) (s : Subject) (b : ℕ) → Accepting i s b e → ⊥) → ((j d r : ℕ) (f x : Option Side) → Advancing j d r f x e → ⊥) → ((j d : ℕ) (v : Side) → Opening j d v e → ⊥) → ((j d : ℕ) → decision_of (e ∷ es) j d ≡ decision_of es j d) → next ≡ h → Same now left → count (stranger line) left ≡ 0 → Shows line coin (e ∷ es) next left (leaving now st)
+  quiet e now next left no_announce no_accept no_advance no_open undecided same waits known =
+      subst (λ x. Shows line coin (e ∷ es) x left (leaving now st)) (sym same) (record {
+        mirrors = record {
+          large = shows.mirrors.large;
+          records = shows.mirrors.records;
+          fresh = shows.mirrors.fresh;
+          waits = waits;
+          known = known;
+        };
+        items = items_on e es st (leaving now st) no_announce (λ i k. refl) shows.items;
+        bodies = bodies_on line e es st (leaving now st) no_accept (λ i s. refl) shows.bodies;
+        cases = still line capacity coin es h ws st shows e h (leaving now st) no_advance no_open undecided refl (λ j d q. refl) (λ j d lt o r b x. x);
+      })
+
   pub by_refused : (turn : _) (e : Refusal) (after : Held) (left : List Message) → Happens line capacity h ws coin (refused turn e) after left → Follow line coin st (refused turn e ∷ es) after left
   by_refused turn e after left r = (
     st,
     λ run. run,
-    subst₂ (λ x y. Shows line coin (refused turn e ∷ es) x y st) (sym r.memory) (sym r.carrier) (record {
-      mirrors = shows.mirrors;
-      items = items_on (refused turn e) es st st (λ i k b x. x) (λ i k. refl) shows.items;
-      bodies = bodies_on line (refused turn e) es st st (λ i s b x. x) (λ i s. refl) shows.bodies;
-      cases = still line capacity coin es h ws st shows (refused turn e) h st (λ j d r f x z. z) (λ j d v z. z) (λ j d. refl) refl (λ j d q. refl) (λ j d lt o r b x. x);
-    }),
+    quiet (refused turn e) st.waiting after left (λ i k b x. x) (λ i s b x. x) (λ j d r f x z. z) (λ j d v z. z) (λ j d. refl) r.memory (subst (Same st.waiting) (sym r.carrier) shows.mirrors.waits) (ap (count (stranger line)) r.carrier ∙ shows.mirrors.known),
   )
 
   pub by_forged : (m : Message) (posted : ℕ) (after : Held) (left : List Message) → Happens line capacity h ws coin (forged m posted) after left → Follow line coin st (forged m posted ∷ es) after left
@@ -51,18 +64,8 @@ module _ (line : Line) (capacity : ℕ) (coin : Coin) (es : List Event) (h : Hel
       let here = no_strange_sender line m may.sender may.inside in (
         leaving left st,
         λ run. machine.after run (machine.forge m left may.sender may.faulty (λ p. omega (arith, d.carrier p, count_cons p m ws, count_cons p m st.waiting, shows.mirrors.waits p))),
-        subst (λ x. Shows line coin (forged m posted ∷ es) x left (leaving left st)) (sym d.memory) (record {
-          mirrors = record {
-            large = shows.mirrors.large;
-            records = shows.mirrors.records;
-            fresh = shows.mirrors.fresh;
-            waits = λ p. refl;
-            known = omega (arith, d.carrier (stranger line), count_cons (stranger line) m ws, cond-false {A = ℕ} (stranger line m) 1 0 here, shows.mirrors.known);
-          };
-          items = items_on (forged m posted) es st (leaving left st) (λ i k b x. x) (λ i k. refl) shows.items;
-          bodies = bodies_on line (forged m posted) es st (leaving left st) (λ i s b x. x) (λ i s. refl) shows.bodies;
-          cases = still line capacity coin es h ws st shows (forged m posted) h (leaving left st) (λ j d r f x z. z) (λ j d v z. z) (λ j d. refl) refl (λ j d q. refl) (λ j d lt o r b x. x);
-        }),
+        quiet (forged m posted) left after left (λ i k b x. x) (λ i s b x. x) (λ j d r f x z. z) (λ j d v z. z) (λ j d. refl) d.memory (λ p. refl)
+            (omega (arith, d.carrier (stranger line), count_cons (stranger line) m ws, cond-false {A = ℕ} (stranger line m) 1 0 here, shows.mirrors.known)),
       )
 
   module _ (i b k posted : ℕ) (after : Held) (left : List Message) (a : Announces line capacity h ws i b k posted after left) where
@@ -165,18 +168,8 @@ module _ (line : Line) (capacity : ℕ) (coin : Coin) (es : List Event) (h : Hel
         let no_one = answer (outcome h nothing) is in (
           leaving left st,
           λ run. machine.after run (machine.drop m left to bad (λ p. omega (arith, taken p, count_cons p m d.rest, count_cons p m left, end.carrier p))),
-          subst (λ x. Shows line coin (delivered i pick m posted accepting ∷ es) x left (leaving left st)) (sym end.memory) (record {
-            mirrors = record {
-              large = shows.mirrors.large;
-              records = shows.mirrors.records;
-              fresh = shows.mirrors.fresh;
-              waits = λ p. refl;
-              known = omega (arith, end.carrier (stranger line), rest_known);
-            };
-            items = items_on (delivered i pick m posted accepting) es st (leaving left st) (λ j k b x. x) (λ j k. refl) shows.items;
-            bodies = bodies_on line (delivered i pick m posted accepting) es st (leaving left st) (λ j s b x. both_ways accepting no_one x.0) (λ j s. refl) shows.bodies;
-            cases = still line capacity coin es h ws st shows (delivered i pick m posted accepting) h (leaving left st) (λ j d r f x z. z) (λ j d v z. z) (λ j d. refl) refl (λ j d q. refl) (λ j d lt o r b x. x);
-          }),
+          quiet (delivered i pick m posted accepting) left after left (λ j k b x. x) (λ j s b x. both_ways accepting no_one x.0) (λ j d r f x z. z) (λ j d v z. z) (λ j d. refl) end.memory (λ p. refl)
+              (omega (arith, end.carrier (stranger line), rest_known)),
         )
 
     -- what a reaction sends has no stranger

@@ -1,17 +1,15 @@
 -- Laws of the messages in the places of a table. Assumes nothing.
-use Rattle.std.proofs.Common.{◌≡◌, ℕ, zero, suc, ◌+◌, ◌<◌, ◌≤◌, Bool, true, false, not, cond, List, [], ◌∷◌, length, get_or, set, Some, None, Option, Result, sym, refl, ap, ◌∙◌, ⊎_elim, arith}
-use Rattle.std.specs.Option.{ok_or}
+use Rattle.std.proofs.Common.{◌≡◌, ℕ, zero, suc, ◌+◌, ◌<◌, ◌≤◌, Bool, true, false, not, cond, List, [], ◌∷◌, length, get_or, set, Some, None, Option, sym, refl, ap, ◌∙◌, ⊎_elim, arith}
+use Rattle.std.specs.Option.{IsSome}
 use Rattle.std.specs.List.{count_by, position, position_or_len}
 use Rattle.std.proofs.lemmas.List.{length-set, take_all}
 use Rattle.std.proofs.lemmas.List.Sums.{sum_by-cons}
 use Rattle.std.proofs.lemmas.Option.{none-some}
 use Rattle.std.proofs.lemmas.Bool.{eqb-true, false≢true, cond-true, lt-ltb, cases_lt}
 use Rattle.protocol.specs.declared.messages.Message.{Message}
-use Rattle.protocol.specs.declared.refusals.Refusal.{Refusal}
-use Rattle.protocol.specs.declared.refusals.Refusal.TheVariants.{NothingWaiting}
 use Rattle.protocol.specs.Bags.{count, Same}
 use Rattle.protocol.proofs.Bags.{count_none, count_cons, count_append, same_length}
-use Rattle.carrier.specs.Waiting.{addressed, waiting_for, Added, Taken, Removed}
+use Rattle.carrier.specs.Waiting.{addressed, waiting_for, Added, Removed}
 use Rattle.tray.specs.Layers.{kept_le}
 use Rattle.tray.specs.Tables.{in_place, is_free, is_for, messages, kept}
 
@@ -66,18 +64,18 @@ module _ (ps : List (Option Message)) (few : length ps ≤ 8) (i : ℕ) (d : Opt
         none p None h = count_none p
         none p (Some m) h = absurd (false≢true h)
 
-  taken_out : (process : ℕ) (m : Message) → get_or ps i d ≡ Some m → m.addressee ≡ process → Removed m process (kept ps) (kept (set ps i None))
-  taken_out process m here for =
-      record {
-        addressee = for;
+  pub held : (process : ℕ) → is_for process (get_or ps i d) ≡ true → IsSome (get_or ps i d)
+  held process for = go (get_or ps i d) for where
+    go : (o : Option Message) → is_for process o ≡ true → IsSome o
+    go None h = absurd (false≢true h)
+    go (Some m) h = refl
+
+  -- the place has q now
+  pub taken : (process : ℕ) (m : Message) (q : Option Message) → is_for process (get_or ps i d) ≡ true → get_or ps i d ≡ Some m → q ≡ None → Removed m process (kept ps) (kept (set ps i q))
+  taken process m q for here none =
+      rw none (record {
+        addressee = eqb-true m.addressee process (sym (ap (is_for process) here) ∙ for);
         same = λ p.
             let one : count p (in_place (get_or ps i d)) ≡ count p (m ∷ []) = ap (λ (o : Option Message). count p (in_place o)) here in
             omega (arith, kept_set p None, one, count_cons p m [], count_cons p m (kept (set ps i None)), count_none p);
-      }
-
-  -- it answered r, and has q now
-  pub taken : (process : ℕ) (r : Result Message Refusal) (q : Option Message) → is_for process (get_or ps i d) ≡ true → r ≡ ok_or (get_or ps i d) NothingWaiting → q ≡ None → Taken r process (kept ps) (kept (set ps i q))
-  taken process r q for e none = rw (e, none) (out (get_or ps i d) refl for) where
-    out : (o : Option Message) → get_or ps i d ≡ o → is_for process o ≡ true → Taken (ok_or o NothingWaiting) process (kept ps) (kept (set ps i None))
-    out None here h = absurd (false≢true h)
-    out (Some m) here h = taken_out process m here (eqb-true m.addressee process h)
+      })

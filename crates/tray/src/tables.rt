@@ -71,6 +71,6 @@ impl Table {
         ensures { Taken result process (kept self.old.places) (kept self.new.places) }
     {
         let at = self.first_for(process).ok_or(Refusal::NothingWaiting)?;
-        self.places[at].take().ok_or(Refusal::NothingWaiting)
+        Ok(self.places[at].take().unwrap())
     }
 }
