@@ -4,21 +4,9 @@ use Rattle.grammar.specs.Grammar.{commands}
 use Rattle.reader.proofs.Words.{at_word, at_no_word}
 use Rattle.reader.proofs.command.read_command.Goals as goal
 
-pub returns-in-line : goal.returns-in-line
-returns-in-line c = λ k.
-    at_word c.args.cursor.now c.pull.new.cursor c.in_ok-token.field-0 c.text.result.now (codes "line") c.in_ok-token.ensures c.text.ensures (search (rules, text_from_reads)) _ _ ∙ c.read_line.ensures k
-
 pub returns-in-announce : goal.returns-in-announce
 returns-in-announce c = λ k.
     at_word c.args.cursor.now c.pull.new.cursor c.in_ok-token.field-0 c.text.result.now (codes "announce") c.in_ok-token.ensures c.text.ensures (search (rules, text_from_reads)) _ _ ∙ c.read_announce.ensures k
-
-pub returns-in-open : goal.returns-in-open
-returns-in-open c = λ k.
-    at_word c.args.cursor.now c.pull.new.cursor c.in_ok-token.field-0 c.text.result.now (codes "open") c.in_ok-token.ensures c.text.ensures (search (rules, text_from_reads)) _ _ ∙ c.read_open.ensures k
-
-pub returns-in-forge : goal.returns-in-forge
-returns-in-forge c = λ k.
-    at_word c.args.cursor.now c.pull.new.cursor c.in_ok-token.field-0 c.text.result.now (codes "forge") c.in_ok-token.ensures c.text.ensures (search (rules, text_from_reads)) _ _ ∙ c.read_forge.ensures k
 
 pub returns-in-deliver : goal.returns-in-deliver
 returns-in-deliver c = λ k.
