@@ -3,11 +3,11 @@ ghost use Rattle.form.specs.Marks.{added, room_for};
 
 use std::marker::Model;
 
-/// The marks of a line form, in the order written: at most 16.
-// Not a list of the library's: those are not `Copy`, and a form is.
+/// The marks of a line form, in the order written: at most `MOST`.
+// A form is `Copy`, which a public type may not lose; neither `arrayvec::ArrayVec` nor a list of std's is.
 #[derive(Clone, Copy, Debug, PartialEq, Eq)]
 pub struct Marks {
-    values: [u64; 16],
+    values: [u64; Marks::MOST],
     count: usize,
 }
 
@@ -32,12 +32,15 @@ impl Model for Marks {
 pub struct Full;
 
 impl Marks {
+    /// The most marks that a line form may have.
+    pub const MOST: usize = 16;
+
     /// No marks.
     pub fn new() -> Marks
         ensures { result ≡ [] }
     {
         Marks {
-            values: [0; 16],
+            values: [0; Marks::MOST],
             count: 0,
         }
     }
@@ -47,7 +50,7 @@ impl Marks {
         ensures answer { IsOk result ↔ IsTrue (room_for self.old) }
         ensures after { self.new ≡ added self.old mark }
     {
-        if self.count == 16 {
+        if self.count == Marks::MOST {
             return Err(Full);
         }
         self.values[self.count] = mark;

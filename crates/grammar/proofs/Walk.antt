@@ -1,5 +1,5 @@
 -- One token of a line, and what the grammar's machine does with it.
-use Rattle.std.proofs.Common.{◌≡◌, ℕ, Bool, true, false, cond, ◌&&◌, List, [], ◌∷◌, length, Some, None, Ok, Err, Option, Result, sym, refl, ap, ◌∙◌, subst}
+use Rattle.std.proofs.Common.{◌≡◌, ℕ, Bool, true, false, cond, ◌&&◌, is_some, List, [], ◌∷◌, length, Some, None, Ok, Err, Option, Result, sym, refl, ap, ◌∙◌, subst}
 use Rattle.std.specs.Option.{ok_or}
 use Rattle.token.specs.declared.cursor.Cursor.{Cursor}
 use Rattle.token.specs.declared.fault.Place.{Place}
@@ -81,10 +81,10 @@ pub missed : (c : Cursor) (o : Option Lexeme) (at : Place) (e : FormFault) → s
 missed c None at e value is h = let same : Unexpected at ≡ e = cc in λ fits then. pull_none (here c) (left c) fits then value ∙ (ap (λ p. Err (Unexpected p)) (sym is) ∙ ap Err same)
 missed c (Some u) at e value is h = cc
 
-pub ends_none : (c : Cursor) (o : Option Lexeme) (f : Form) → o ≡ None → spelled (Ok o) ≡ scanned (here c) (left c) → Ends c f (Ok f)
+pub ends_none : (c : Cursor) (o : Option Lexeme) (f : Form) → is_some o ≡ false → spelled (Ok o) ≡ scanned (here c) (left c) → Ends c f (Ok f)
 ends_none c None f e value = end_none (here c) (left c) f value
 ends_none c (Some u) f e value = cc
 
-pub ends_some : (c : Cursor) (o : Option Lexeme) (t : Lexeme) (f : Form) (at : Place) → o ≡ Some t → spelled (Ok o) ≡ scanned (here c) (left c) → at ≡ here c → Ends c f (Err (Unexpected at))
-ends_some c None t f at e value is = cc
-ends_some c (Some u) t f at e value is = end_some (here c) (left c) f (spelling u) value ∙ ap (λ p. Err (Unexpected p)) (sym is)
+pub ends_some : (c : Cursor) (o : Option Lexeme) (f : Form) (at : Place) → is_some o ≡ true → spelled (Ok o) ≡ scanned (here c) (left c) → at ≡ here c → Ends c f (Err (Unexpected at))
+ends_some c None f at e value is = cc
+ends_some c (Some u) f at e value is = end_some (here c) (left c) f (spelling u) value ∙ ap (λ p. Err (Unexpected p)) (sym is)

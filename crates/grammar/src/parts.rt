@@ -28,10 +28,10 @@ pub fn finish(cursor: &mut Cursor<'_>, form: Form) -> Result<Form, FormFault>
     ensures { Ends cursor.old form result }
 {
     let place = cursor.place();
-    match cursor.next_token()? {
-        Some(_) => Err(FormFault::Unexpected(place)),
-        None => Ok(form),
+    if cursor.next_token()?.is_some() {
+        return Err(FormFault::Unexpected(place));
     }
+    Ok(form)
 }
 
 // A token of these bytes.

@@ -1,18 +1,16 @@
 //! Checks a rehearsal script, from standard input to standard output.
 #![tactic(auto)]
 
-use script::lint;
+use script::{LIMIT, lint};
 use std::io;
 use std::io::{Read, Write};
-
-/// One byte more than a script may have, so that a longer one shows.
-const ENOUGH: u64 = 4097;
 
 // The rehearsal's main is the same but for its call: one helper would be handed the call and the runtime, no shorter.
 fn main(rt: HostRuntime) -> io::Result<()> {
     let heap = rt.alloc();
     let mut input = Vec::new(heap);
-    rt.stdin().take(ENOUGH).read_to_end(&mut input)?;
+    // One byte more than a script may have, so that a longer one shows.
+    rt.stdin().take(LIMIT as u64 + 1).read_to_end(&mut input)?;
     let text = lint(heap, input.as_slice())?;
     rt.stdout().write_all(text.as_bytes())
 }

@@ -136,7 +136,7 @@ fn read_marks(cursor: &mut Cursor<'_>) -> Result<Marks, FormFault>
     ensures { Reads cursor.old cursor.new result all_marks }
 {
     let mut marks = Marks::new();
-    for _seen in 0..16usize {
+    for _ in 0..Marks::MOST {
         let Some(mark) = next_mark(cursor)? else {
             return Ok(marks);
         };

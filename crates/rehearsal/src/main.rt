@@ -2,17 +2,16 @@
 #![tactic(auto)]
 
 use rehearse::rehearse;
+use script::LIMIT;
 use std::io;
 use std::io::{Read, Write};
-
-/// One byte more than a script may have, so that a longer one shows.
-const ENOUGH: u64 = 4097;
 
 // As the main of lint: a helper would be handed the call and the runtime, and be as long.
 fn main(rt: HostRuntime) -> io::Result<()> {
     let heap = rt.alloc();
     let mut input = Vec::new(heap);
-    rt.stdin().take(ENOUGH).read_to_end(&mut input)?;
+    // One byte more than a script may have, so that a longer one shows.
+    rt.stdin().take(LIMIT as u64 + 1).read_to_end(&mut input)?;
     let text = rehearse(heap, input.as_slice())?;
     rt.stdout().write_all(text.as_bytes())
 }

@@ -7,7 +7,7 @@ mod responder;
 mod split;
 
 pub use fault::ScriptFault;
-pub use linter::{check_line, check_size, lint};
+pub use linter::{LIMIT, check_line, check_size, lint};
 pub use responder::{Responder, answer};
 pub use split::{Lines, ScriptLine};
 

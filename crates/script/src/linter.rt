@@ -13,7 +13,7 @@ use std::alloc::{AllocError, Global};
 use text::Text;
 
 /// The bytes that a script may have.
-const LIMIT: usize = 4096;
+pub const LIMIT: usize = 4096;
 
 /// The line's form.
 pub fn check_line(line: ScriptLine<'_>) -> Result<Form, ScriptFault>

@@ -1,3 +1,4 @@
+use Rattle.std.proofs.Common.{sym, ◌∙◌}
 use Rattle.std.proofs.lemmas.Result.{err_from_is_err_and}
 use Rattle.grammar.proofs.Walk.{pull_fault, ends_none, ends_some}
 use Rattle.grammar.proofs.parts.finish.Goals as goal
@@ -7,8 +8,8 @@ returns-in_err-next_token c =
     let p = err_from_is_err_and c.from_residual.result c.from_residual.ensures.1 in
     rw (p.1, p.2) (pull_fault _ _ _ c.in_err-next_token.ensures.value _)
 
-pub returns-in-Some : goal.returns-in-Some
-returns-in-Some c = ends_some c.args.cursor.now _ _ _ _ c.in-Some.is c.in_ok-next_token.ensures.value c.place-place.ensures
+pub returns-then-is_some : goal.returns-then-is_some
+returns-then-is_some c = ends_some c.args.cursor.now _ _ _ (sym c.is_some.ensures ∙ c.if-is_some.true) c.in_ok-next_token.ensures.value c.place-place.ensures
 
-pub returns-in-None : goal.returns-in-None
-returns-in-None c = ends_none c.args.cursor.now _ _ c.in-None.is c.in_ok-next_token.ensures.value
+pub returns : goal.returns
+returns c = ends_none c.args.cursor.now _ _ (sym c.is_some.ensures ∙ c.if-is_some.false) c.in_ok-next_token.ensures.value
