@@ -15,27 +15,51 @@ const BLANKS: [u64; 4] = [7; 4];
 // What is played, and what process 0 says besides.
 const LIES: [(Row, [Lie; 2]); 6] = [
     (
-        (1, &[FAULTY, KEEP, RELEASE, RELEASE], Some(Side::Release)),
+        Row {
+            t: 1,
+            votes: &[FAULTY, KEEP, RELEASE, RELEASE],
+            side: Some(Side::Release),
+        },
         [(1, Step::Initial, [0, 0, 1, 1]); 2],
     ),
     (
-        (1, &[FAULTY, KEEP, RELEASE, RELEASE], Some(Side::Keep)),
+        Row {
+            t: 1,
+            votes: &[FAULTY, KEEP, RELEASE, RELEASE],
+            side: Some(Side::Keep),
+        },
         [(1, Step::Initial, [0, 0, 0, 1]), (1, Step::Echo, KEEPS)],
     ),
     (
-        (1, &[FAULTY, KEEP, RELEASE, KEEP], Some(Side::Release)),
+        Row {
+            t: 1,
+            votes: &[FAULTY, KEEP, RELEASE, KEEP],
+            side: Some(Side::Release),
+        },
         [(1, Step::Initial, [0, 0, 1, 1]), (1, Step::Echo, RELEASES)],
     ),
     (
-        (1, &[FAULTY, RELEASE, RELEASE, RELEASE], Some(Side::Release)),
+        Row {
+            t: 1,
+            votes: &[FAULTY, RELEASE, RELEASE, RELEASE],
+            side: Some(Side::Release),
+        },
         [(1, Step::Initial, RELEASES), (2, Step::Initial, KEEPS)],
     ),
     (
-        (1, &[FAULTY, RELEASE, RELEASE, RELEASE], Some(Side::Release)),
+        Row {
+            t: 1,
+            votes: &[FAULTY, RELEASE, RELEASE, RELEASE],
+            side: Some(Side::Release),
+        },
         [(1, Step::Initial, RELEASES), (3, Step::Initial, PROPOSALS)],
     ),
     (
-        (1, &[FAULTY, KEEP, RELEASE, RELEASE], Some(Side::Release)),
+        Row {
+            t: 1,
+            votes: &[FAULTY, KEEP, RELEASE, RELEASE],
+            side: Some(Side::Release),
+        },
         [(1, Step::Initial, BLANKS); 2],
     ),
 ];
@@ -49,9 +73,8 @@ fn lies_change_no_agreement(rt: HostRuntime) -> Result<(), Fail> {
     let mut queue = Queue::new(&mut queued);
     let mut pile = Pile::new(&mut piled);
     for (row, lies) in LIES {
-        let (t, votes, _) = row;
-        let unsure = (t, votes, None);
         play(&rt, &mut queue, &coin, row, &lies, |hall| hall.settle())?;
+        let unsure = Row { side: None, ..row };
         play(&rt, &mut pile, &coin, unsure, &lies, |hall| hall.hurry())?;
     }
     Ok(())

@@ -13,34 +13,41 @@ type Answers = (
     Result<u64, Refusal>,
 );
 
-fn alone() -> Result<Line, Refusal> {
-    Ok(Line::from(Draft::new(Plan::new(1, 0, 1, 1, 1)?)))
-}
-
-// A process alone, which has accepted release, release and its proposal, advances to a round, opens the case and
-// announces an item, as far as it may.
-fn answers(round: u8, serial: u8) -> Result<Answers, Refusal> {
+// A process alone, which has accepted release, release and its proposal. What memory holds of its case and serials is told.
+fn run_alone<A, F>(case: CaseRecord, serial: u8, run: F) -> Result<A, Fail>
+where
+    F: FnOnce(&mut Hall<Queue, WordCoin>) -> Result<A, Fail>,
+    requires { F.IsAlwaysCallable run }
+{
     let mut places = [Message::BLANK; 3];
     let mut hall = Hall {
-        line: alone()?,
+        line: Line::from(Draft::new(Plan::new(1, 0, 1, 1, 1)?)),
         memory: Memory {
             broadcasts: &mut [accepted(5), accepted(1), accepted(1), accepted(3)],
             bodies: &mut [None; 8],
-            cases: &mut [CaseRecord {
-                round,
-                ..CaseRecord::UNOPENED
-            }],
+            cases: &mut [case],
             serials: &mut [serial],
         },
         carrier: &mut Queue::new(&mut places),
         coin: &WordCoin::new(0),
     };
-    let reached = hall.advance(0).map(|reached| reached.round);
-    let opened = hall.open_case(0, 1);
-    let announced = hall
-        .announce(0, &Tag::new(6)?)
-        .map(|announced| announced.serial);
-    Ok((reached, opened, announced))
+    run(&mut hall)
+}
+
+// The process advances to a round, opens the case and announces an item, as far as it may.
+fn answers(round: u8, serial: u8) -> Result<Answers, Fail> {
+    let case = CaseRecord {
+        round,
+        ..CaseRecord::UNOPENED
+    };
+    run_alone(case, serial, |hall| {
+        let reached = hall.advance(0).map(|reached| reached.round);
+        let opened = hall.open_case(0, 1);
+        let announced = hall
+            .announce(0, &Tag::new(6)?)
+            .map(|announced| announced.serial);
+        Ok((reached, opened, announced))
+    })
 }
 
 #[test]
@@ -65,33 +72,24 @@ fn stored_numbers_are_taken_as_they_are(rt: HostRuntime) -> Result<(), Fail> {
 // decision changes it.
 #[test]
 fn the_stored_decision_stands(rt: HostRuntime) -> Result<(), Fail> {
-    let mut places = [Message::BLANK; 3];
     let early = Decision {
         side: Side::Keep,
         phase: 9,
     };
-    let mut hall = Hall {
-        line: alone()?,
-        memory: Memory {
-            broadcasts: &mut [accepted(5), accepted(1), accepted(1), accepted(3)],
-            bodies: &mut [None; 8],
-            cases: &mut [CaseRecord {
-                round: 0,
-                decision: Some(early),
-                slip: Slip::Out,
-            }],
-            serials: &mut [0],
-        },
-        carrier: &mut Queue::new(&mut places),
-        coin: &WordCoin::new(0),
+    let case = CaseRecord {
+        round: 0,
+        decision: Some(early),
+        slip: Slip::Out,
     };
-    assert_eq!(rt; hall.open_case(0, 1)?, 1);
-    for round in 1..4 {
-        assert_eq!(rt; hall.memory.case_record(0).round, round);
+    run_alone(case, 0, |hall| {
+        assert_eq!(rt; hall.open_case(0, 1)?, 1);
+        for round in 1..4 {
+            assert_eq!(rt; hall.memory.case_record(0).round, round);
+            assert_eq!(rt; hall.memory.case_record(0).decision, Some(early));
+            let _ = hall.advance(0)?;
+        }
         assert_eq!(rt; hall.memory.case_record(0).decision, Some(early));
-        let _ = hall.advance(0)?;
-    }
-    assert_eq!(rt; hall.memory.case_record(0).decision, Some(early));
-    assert_eq!(rt; hall.memory.case_record(0).slip, Slip::Out);
-    Ok(())
+        assert_eq!(rt; hall.memory.case_record(0).slip, Slip::Out);
+        Ok(())
+    })
 }

@@ -21,13 +21,30 @@ pub const FAULTY: Option<u64> = None;
 pub type Lie = (u64, Step, [u64; 4]);
 
 // How many processes may be faulty, what each process votes, and the side that is decided, where it is sure.
-pub type Row<'v> = (u64, &'v [Option<u64>], Option<Side>);
+#[derive(Clone, Copy)]
+pub struct Row<'v> {
+    pub t: u64,
+    pub votes: &'v [Option<u64>],
+    pub side: Option<Side>,
+}
 
-// Ballots stand as numbers in the tests: a table cannot call `number`.
+impl<'v> Row<'v> {
+    pub fn new(t: u64, votes: &'v [Option<u64>], side: Option<Side>) -> Row<'v> {
+        Row { t, votes, side }
+    }
+}
+
+// Ballots stand as numbers in the tests: a table cannot call `number`, and some bodies are no ballot's. The tests of
+// ballots and of cases have this too: a crate for it would be a dependency of their code.
 pub fn accepted(body: u64) -> BroadcastRecord {
     BroadcastRecord {
         stage: Stage::Accepted(body),
     }
+}
+
+// The line alone: a hall that is made here comes in a `Result`, which the borrow checker does not cover.
+pub fn opened<C: Carrier>(draft: Draft, memory: &mut Memory, carrier: &C) -> Result<Line, Refusal> {
+    open_line(draft, memory, carrier).map_err(|(refusal, _draft)| refusal)
 }
 
 // What the turns are handed, with the coin for the line's only case.
@@ -128,18 +145,15 @@ where
     F: FnOnce(&mut Hall<C, K>) -> Result<(), Fail>,
     requires { F.IsAlwaysCallable run }
 {
-    let (t, votes, side) = row;
+    let Row { t, votes, side } = row;
     let mut memory = Memory {
         broadcasts: &mut [BroadcastRecord::SILENT; 294],
         bodies: &mut [None; 4116],
         cases: &mut [CaseRecord::UNOPENED; 7],
         serials: &mut [0; 7],
     };
-    let Ok(line) = open_line(draft(t, votes)?, &mut memory, carrier) else {
-        return Err(Fail::new("the line is not opened"));
-    };
     let mut hall = Hall {
-        line,
+        line: opened(draft(t, votes)?, &mut memory, carrier)?,
         memory,
         carrier,
         coin,

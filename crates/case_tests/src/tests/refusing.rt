@@ -5,6 +5,7 @@ use line::{advance, open_case};
 use memory::{BroadcastRecord, CaseRecord, Memory};
 use plan::{Draft, Line, Plan};
 use protocol::{Message, Refusal};
+use rules::Advanced;
 
 const FIRST: CaseRecord = CaseRecord {
     round: 1,
@@ -66,13 +67,13 @@ fn opening_is_refused_in_order(rt: HostRuntime) {
 }
 
 // Process 0 may advance from the first round and process 1 from the last, by the keeps and then three proposals of
-// keep that it accepted. Process 2 has not opened the case. Answers the round reached and how many messages were posted.
+// keep that it accepted. Process 2 has not opened the case.
 fn try_to_advance(
     serials: usize,
     free: usize,
     process: u64,
     case: u64,
-) -> Result<(u64, u64), Refusal> {
+) -> Result<Advanced, Refusal> {
     let mut places = [Message::BLANK; 4];
     let mut carrier = Queue::new(&mut places[0..free.min(4)]);
     let mut records = [accepted(0); 48];
@@ -86,12 +87,19 @@ fn try_to_advance(
         serials: &mut [0; 4][0..serials.min(4)],
     };
     let coin = WordCoin::new(0);
-    let reached = advance(&line()?, &mut memory, &mut carrier, &coin, process, case)?;
-    Ok((reached.round, reached.posted))
+    advance(&line()?, &mut memory, &mut carrier, &coin, process, case)
 }
 
 #[test]
 fn advancing_is_refused_in_order(rt: HostRuntime) {
+    let second = Advanced {
+        round: 2,
+        posted: 4,
+    };
+    let end = Advanced {
+        round: 4,
+        posted: 0,
+    };
     let rows = [
         (3, 0, 4, 1, Err(Refusal::MemoryTooSmall)),
         (4, 0, 4, 1, Err(Refusal::ProcessOutOfRange)),
@@ -99,8 +107,8 @@ fn advancing_is_refused_in_order(rt: HostRuntime) {
         (4, 0, 2, 1, Err(Refusal::SubjectOutOfPlan)),
         (4, 0, 2, 0, Err(Refusal::MayNotAdvance)),
         (4, 3, 0, 0, Err(Refusal::NoRoom)),
-        (4, 4, 0, 0, Ok((2, 4))),
-        (4, 0, 1, 0, Ok((4, 0))),
+        (4, 4, 0, 0, Ok(second)),
+        (4, 0, 1, 0, Ok(end)),
     ];
     for (serials, free, process, case, expected) in rows {
         assert_eq!(rt; try_to_advance(serials, free, process, case), expected);

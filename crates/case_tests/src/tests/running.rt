@@ -5,6 +5,7 @@ use item::Tag;
 use memory::{BroadcastRecord, CaseRecord, Decision, Memory};
 use plan::{Draft, Plan};
 use protocol::{Message, Side};
+use rules::Advanced;
 use runs::{Answer, Turn, perform, run};
 use std::test::Fail;
 
@@ -62,9 +63,8 @@ fn a_run_is_a_list_of_turns(rt: HostRuntime) -> Result<(), Fail> {
     };
     let draft = Draft::new(Plan::new(1, 0, 1, 1, 1)?);
     let turns = turns(Tag::new(5)?);
-    let Ok(line) = run(draft, &mut memory, &mut carrier, &coin, &turns) else {
-        return Err(Fail::new("the line is not opened"));
-    };
+    let opened = run(draft, &mut memory, &mut carrier, &coin, &turns);
+    let line = opened.map_err(|(refusal, _draft)| refusal)?;
     assert!(rt; is_idle(&carrier));
     assert_eq!(rt; memory.next_serial(0), 1);
     assert_eq!(rt; memory.case_record(0).round, 3);
@@ -72,10 +72,11 @@ fn a_run_is_a_list_of_turns(rt: HostRuntime) -> Result<(), Fail> {
         assert_eq!(rt; memory.stage(place).accepted(), Some(expected));
     }
     let answer = perform(&line, &mut memory, &mut carrier, &coin, &advance())?;
-    let Answer::Advanced(reached) = answer else {
-        return Err(Fail::new("another answer"));
+    let last = Advanced {
+        round: 4,
+        posted: 0,
     };
-    assert_eq!(rt; (reached.round, reached.posted), (4, 0));
+    assert_eq!(rt; answer, Answer::Advanced(last));
     let decided = Decision {
         side: Side::Release,
         phase: 1,

@@ -128,8 +128,8 @@ fn comes_back(
     };
     let slip = refused(rt, hand_over(&line, &mut memory, slip), expected);
     let slip = refused(rt, put_back(&line, &mut memory, slip), expected);
-    for place in 0..8 {
-        assert_eq!(rt; memory.case_record(place), before);
+    for record in memory.cases.iter() {
+        assert_eq!(rt; *record, before);
     }
     slip
 }

@@ -1,8 +1,7 @@
-use crate::tests::playing::Hall;
+use crate::tests::playing::{Hall, opened};
 use carrier::Carrier;
 use carriers::Queue;
 use coin::{Coin, DealerStrip, OwnStrip, WordCoin};
-use line::open_line;
 use memory::{BroadcastRecord, CaseRecord, Decision, Memory};
 use plan::{Draft, Plan};
 use protocol::{Message, Side};
@@ -40,11 +39,8 @@ fn toss<C: Carrier, K: Coin>(
         serials: &mut [0; 4],
     };
     let draft = Draft::new(Plan::new(4, 1, 0, 1, 2)?);
-    let Ok(line) = open_line(draft, &mut memory, carrier) else {
-        return Err(Fail::new("the line is not opened"));
-    };
     let mut hall = Hall {
-        line,
+        line: opened(draft, &mut memory, carrier)?,
         memory,
         carrier,
         coin,
