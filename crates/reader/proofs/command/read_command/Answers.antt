@@ -18,6 +18,4 @@ returns-in-advance c =
 
 pub returns-in_default : goal.returns-in_default
 returns-in_default c =
-    let none : known commands c.text.result.now ≡ false =
-    not_known c.text.result.now commands (λ is. grind arith, (λ is. grind arith, (λ is. grind arith, (λ is. grind arith, (λ is. grind arith, (λ is. grind arith, tt)))))) in
-    search rules
+    let none : known commands c.text.result.now ≡ false = not_known c.text.result.now commands (λ is. grind arith, (λ is. grind arith, (λ is. grind arith, (λ is. grind arith, (λ is. grind arith, (λ is. grind arith, tt)))))) in search rules
