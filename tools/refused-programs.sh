@@ -35,7 +35,7 @@ refused() {
         failed=1
     fi
 }
-refused marks_line 'error[unknown-method]: no method named `mark_faulty`'
+refused marks_line 'error[unknown-method]: the method `mark_faulty` takes `self` as `&mut Marked<Drafted>`, and is called on `Marked<Opened>`'
 runs marks_draft
 refused keeps_slip 'error[linear-value-let-go]: `slip` is let go'
 runs returns_slip
