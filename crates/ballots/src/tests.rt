@@ -4,6 +4,7 @@ use plan::Plan;
 use protocol::Ballot;
 use std::test::Fail;
 
+// The tests of cases and case_tests have this too: a crate for it would be a dependency of their code.
 fn accepted(body: u64) -> BroadcastRecord {
     BroadcastRecord {
         stage: Stage::Accepted(body),

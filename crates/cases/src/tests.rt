@@ -5,6 +5,7 @@ use plan::Plan;
 use protocol::{Ballot, Side};
 use std::test::Fail;
 
+// The tests of ballots and case_tests have this too: a crate for it would be a dependency of their code.
 fn accepted(body: u64) -> BroadcastRecord {
     BroadcastRecord {
         stage: Stage::Accepted(body),

@@ -1,4 +1,5 @@
-// What the tests share. Memories stand in each test: their sizes and contents are what it is about.
+// What the tests share. Memories stand in each test: with const parameters for their sizes, bounds on the products of
+// these stay open.
 use carrier::Carrier;
 use item::Item;
 use line::{announce, deliver, forge, open_line};
@@ -6,6 +7,7 @@ use memory::{BroadcastRecord, CaseRecord, Memory, Slip, Stage};
 use plan::{Draft, Line, Plan};
 use protocol::{Message, Refusal, Step, Subject};
 use reading::{Reading, read};
+use rules::{Announced, Delivered};
 use std::ops::Range;
 
 mod broadcasts;
@@ -29,6 +31,12 @@ const ITEM: Subject = Subject::Item {
     serial: 0,
 };
 
+const NOTHING: Delivered = Delivered {
+    posted: 0,
+    accepted: false,
+};
+
+// The tests of memory have these two as well: a crate for them would be a dependency of its code.
 fn item(originator: u64, serial: u64) -> Subject {
     Subject::Item { originator, serial }
 }
@@ -70,10 +78,8 @@ impl<'h, 'm, 'c, C: Carrier> Hall<'h, 'm, 'c, C> {
         }
     }
 
-    // The serial, and how many messages were posted.
-    fn announce<I: Item>(&mut self, process: u64, value: &I) -> Result<(u64, u64), Refusal> {
-        let answer = announce(&self.line, self.memory, self.carrier, process, value)?;
-        Ok((answer.serial, answer.posted))
+    fn announce<I: Item>(&mut self, process: u64, value: &I) -> Result<Announced, Refusal> {
+        announce(&self.line, self.memory, self.carrier, process, value)
     }
 
     fn post(&mut self, message: Message) -> Result<(), Refusal> {
@@ -84,23 +90,23 @@ impl<'h, 'm, 'c, C: Carrier> Hall<'h, 'm, 'c, C> {
         forge(&self.line, self.memory, self.carrier, message)
     }
 
-    // How many messages were posted, and whether the process accepted.
-    fn deliver(&mut self, process: u64, pick: u64) -> Result<(u64, bool), Refusal> {
-        let answer = deliver(&self.line, self.memory, self.carrier, process, pick)?;
-        Ok((answer.posted, answer.accepted))
+    fn deliver(&mut self, process: u64, pick: u64) -> Result<Delivered, Refusal> {
+        deliver(&self.line, self.memory, self.carrier, process, pick)
     }
 
-    // Nothing accepted, unreadable, or the body of the value.
+    // The body stands for the value: a table cannot make one.
     fn read<I: Item + Drop>(
         &self,
         process: u64,
         subject: Subject,
-    ) -> Result<Option<Option<u64>>, Refusal> {
-        match read::<I>(&self.line, self.memory, process, subject)? {
-            Reading::Nothing => Ok(None),
-            Reading::Unreadable => Ok(Some(None)),
-            Reading::Value(value) => Ok(Some(Some(value.pack()))),
-        }
+    ) -> Result<Reading<u64>, Refusal> {
+        Ok(
+            match read::<I>(&self.line, self.memory, process, subject)? {
+                Reading::Nothing => Reading::Nothing,
+                Reading::Unreadable => Reading::Unreadable,
+                Reading::Value(value) => Reading::Value(value.pack()),
+            },
+        )
     }
 
     fn heard(&self) -> usize {

@@ -15,6 +15,7 @@ const OPENED: CaseRecord = CaseRecord {
     slip: Slip::Out,
 };
 
+// The tests of a line have these two as well: a crate for them would be a dependency of the code here.
 fn item(originator: u64, serial: u64) -> Subject {
     Subject::Item { originator, serial }
 }

@@ -6,6 +6,8 @@ use item::{Record, Tag};
 use memory::Memory;
 use plan::{Draft, Plan};
 use protocol::{Message, Refusal, Step};
+use reading::Reading;
+use rules::Announced;
 use std::process::Abort;
 use std::test::Fail;
 use tray::Tray;
@@ -23,8 +25,8 @@ impl<'h, 'm, 'c, C: Carrier> Hall<'h, 'm, 'c, C> {
         for _ in 0..ROUNDS {
             for process in 0..self.line.plan().n() {
                 if self.waiting_for(process) > 0 {
-                    let (_, accepted) = self.deliver(process, pick)?;
-                    count = count.saturating_add(u64::from(accepted));
+                    let answer = self.deliver(process, pick)?;
+                    count = count.saturating_add(u64::from(answer.accepted));
                 }
             }
         }
@@ -55,7 +57,7 @@ impl<'h, 'm, 'c, C: Carrier> Hall<'h, 'm, 'c, C> {
     }
 
     // The correct processes are the first ones, and what they read is of the last one's first item.
-    fn all_read(&self, rt: &impl Abort, expected: Option<Option<u64>>) {
+    fn all_read(&self, rt: &impl Abort, expected: Reading<u64>) {
         let plan = self.line.plan();
         for process in 0..plan.quorum() {
             assert_eq!(rt;
@@ -77,11 +79,18 @@ fn reaches_all<C: Carrier>(
     let line = opened(Draft::new(plan), memory, carrier)?;
     let mut hall = Hall::new(line, memory, carrier);
     let record = Record::new(7, 2, 311, 9770, 14)?;
-    assert_eq!(rt; hall.announce(0, &record)?, (0, plan.n()));
+    let announced = Announced {
+        serial: 0,
+        posted: plan.n(),
+    };
+    assert_eq!(rt; hall.announce(0, &record)?, announced);
     assert_eq!(rt; hall.deliver_all(rt, pick)?, plan.n());
     for process in 0..plan.n() {
-        assert_eq!(rt; hall.read::<Record>(process, ITEM), Ok(Some(Some(BODY))));
-        assert_eq!(rt; hall.read::<Tag>(process, ITEM), Ok(Some(None)));
+        assert_eq!(rt;
+            hall.read::<Record>(process, ITEM),
+            Ok(Reading::Value(BODY))
+        );
+        assert_eq!(rt; hall.read::<Tag>(process, ITEM), Ok(Reading::Unreadable));
     }
     Ok(())
 }
@@ -149,23 +158,23 @@ fn sixteen_processes_accept_alike(rt: HostRuntime) -> Result<(), Fail> {
 
 // What the faulty process 3 tells the processes 0 to 2 of its own item, 0 for nothing: initials, echoes and readies.
 // Then how many of them accept, and what each of them reads. With E = 3, R = 2 and A = 3 the order has no part in it.
-const STORIES: [([[u64; 3]; 3], u64, Option<Option<u64>>); 8] = [
+const STORIES: [([[u64; 3]; 3], u64, Reading<u64>); 8] = [
     // The correct processes need no help.
-    ([[1, 1, 1], [0, 0, 0], [0, 0, 0]], 3, Some(Some(1))),
+    ([[1, 1, 1], [0, 0, 0], [0, 0, 0]], 3, Reading::Value(1)),
     // Two echoes of 1 and one of 2.
-    ([[1, 1, 2], [0, 0, 0], [0, 0, 0]], 0, None),
+    ([[1, 1, 2], [0, 0, 0], [0, 0, 0]], 0, Reading::Nothing),
     // Process 0 hears three echoes of 1. Its ready stays alone.
-    ([[1, 1, 2], [1, 0, 0], [0, 0, 0]], 0, None),
+    ([[1, 1, 2], [1, 0, 0], [0, 0, 0]], 0, Reading::Nothing),
     // A forged ready makes process 1 follow it, and two readies then carry process 2.
-    ([[1, 1, 2], [1, 0, 0], [0, 1, 0]], 3, Some(Some(1))),
-    ([[1, 2, 3], [1, 2, 3], [1, 2, 3]], 0, None),
-    ([[0, 0, 0], [5, 5, 5], [5, 5, 5]], 0, None),
-    ([[1, 1, 2], [1, 1, 2], [2, 2, 2]], 3, Some(Some(1))),
+    ([[1, 1, 2], [1, 0, 0], [0, 1, 0]], 3, Reading::Value(1)),
+    ([[1, 2, 3], [1, 2, 3], [1, 2, 3]], 0, Reading::Nothing),
+    ([[0, 0, 0], [5, 5, 5], [5, 5, 5]], 0, Reading::Nothing),
+    ([[1, 1, 2], [1, 1, 2], [2, 2, 2]], 3, Reading::Value(1)),
     // No tag has this body.
     (
         [[1_000_000, 1_000_000, 1_000_000], [0, 0, 0], [0, 0, 0]],
         3,
-        Some(None),
+        Reading::Unreadable,
     ),
 ];
 
@@ -210,7 +219,7 @@ fn first_of_two_counts<C: Carrier>(
     hall.tell(Step::Initial, [1, 1, 1])?;
     hall.tell(Step::Initial, [2, 2, 2])?;
     assert_eq!(rt; hall.deliver_all(rt, pick)?, 3);
-    hall.all_read(rt, Some(Some(first)));
+    hall.all_read(rt, Reading::Value(first));
     Ok(())
 }
 
@@ -234,20 +243,38 @@ fn a_faulty_originator_makes_no_difference(rt: HostRuntime) -> Result<(), Fail> 
 
 // The plan's n and t, and what the last process tells each of the n - t correct ones; the last t are faulty, and each of
 // them echoes to a process what that was told. Then how many processes accept, and what each of them reads.
-const CAMPS: [(u64, u64, &[u64], u64, Option<Option<u64>>); 9] = [
+const CAMPS: [(u64, u64, &[u64], u64, Reading<u64>); 9] = [
     // E = 3, R = 2: two and the faulty one are enough.
-    (4, 1, &[1, 1, 2], 3, Some(Some(1))),
-    (4, 1, &[1, 2, 3], 0, None),
+    (4, 1, &[1, 1, 2], 3, Reading::Value(1)),
+    (4, 1, &[1, 2, 3], 0, Reading::Nothing),
     // E = 4: two halves with the faulty process in both are no quorums.
-    (5, 1, &[1, 1, 2, 2], 0, None),
-    (5, 1, &[1, 2, 2, 2], 4, Some(Some(2))),
+    (5, 1, &[1, 1, 2, 2], 0, Reading::Nothing),
+    (5, 1, &[1, 2, 2, 2], 4, Reading::Value(2)),
     // E = 5, R = 3, A = 5.
-    (7, 2, &[1, 1, 1, 2, 2], 5, Some(Some(1))),
-    (7, 2, &[1, 1, 2, 2, 3], 0, None),
+    (7, 2, &[1, 1, 1, 2, 2], 5, Reading::Value(1)),
+    (7, 2, &[1, 1, 2, 2, 3], 0, Reading::Nothing),
     // E = 11, R = 6, A = 11.
-    (16, 5, &[1, 1, 1, 1, 1, 1, 2, 2, 2, 2, 2], 11, Some(Some(1))),
-    (16, 5, &[1, 1, 1, 1, 1, 2, 2, 2, 2, 2, 2], 11, Some(Some(2))),
-    (16, 5, &[1, 1, 1, 1, 1, 2, 2, 2, 2, 2, 3], 0, None),
+    (
+        16,
+        5,
+        &[1, 1, 1, 1, 1, 1, 2, 2, 2, 2, 2],
+        11,
+        Reading::Value(1),
+    ),
+    (
+        16,
+        5,
+        &[1, 1, 1, 1, 1, 2, 2, 2, 2, 2, 2],
+        11,
+        Reading::Value(2),
+    ),
+    (
+        16,
+        5,
+        &[1, 1, 1, 1, 1, 2, 2, 2, 2, 2, 3],
+        0,
+        Reading::Nothing,
+    ),
 ];
 
 fn camps_end_alike<C: Carrier>(

@@ -6,13 +6,13 @@ use item::{Record, Tag};
 use memory::{BroadcastRecord, Memory, Stage};
 use plan::{Draft, Plan};
 use protocol::{Ballot, Message, Refusal, Step};
+use reading::Reading;
+use rules::{Announced, Delivered};
 use std::test::Fail;
-
-const NOTHING: (u64, bool) = (0, false);
 
 impl<'h, 'm, 'c, 'p> Hall<'h, 'm, 'c, Pile<'p>> {
     // Posts a message and delivers it at once, since a pile takes the newest.
-    fn give(&mut self, message: Message) -> Result<(u64, bool), Refusal> {
+    fn give(&mut self, message: Message) -> Result<Delivered, Refusal> {
         self.post(message)?;
         self.deliver(message.addressee(), 0)
     }
@@ -53,33 +53,37 @@ fn what_lies_outside_the_plan_is_dropped(rt: HostRuntime) -> Result<(), Fail> {
     assert_eq!(rt; hall.heard(), 0);
     assert_eq!(rt; hall.free(), 9);
     let message = Message::new(3, 2, Step::Initial, ballot(3, 0, 3), 7)?;
-    assert_eq!(rt; hall.give(message), Ok((4, false)));
+    let echoed = Delivered {
+        posted: 4,
+        accepted: false,
+    };
+    assert_eq!(rt; hall.give(message), Ok(echoed));
     Ok(())
 }
 
-// The messages that process 2 gets about an item of process 0: sender, step and body. Then what it does, and how many
-// bodies it has heard. Here E = 3, R = 2 and A = 3.
-const LIFE: [(u64, Step, u64, (u64, bool), usize); 20] = [
-    (1, Step::Initial, 7, NOTHING, 0),
-    (0, Step::Initial, 7, (4, false), 0),
-    (0, Step::Initial, 7, NOTHING, 0),
-    (0, Step::Initial, 8, NOTHING, 0),
-    (0, Step::Echo, 7, NOTHING, 1),
-    (0, Step::Echo, 7, NOTHING, 1),
-    (0, Step::Echo, 8, NOTHING, 1),
-    (3, Step::Echo, 8, NOTHING, 2),
-    (1, Step::Echo, 7, NOTHING, 3),
-    (2, Step::Echo, 7, (4, false), 4),
-    (2, Step::Echo, 7, NOTHING, 4),
-    (0, Step::Ready, 7, NOTHING, 5),
-    (0, Step::Ready, 7, NOTHING, 5),
-    (3, Step::Ready, 8, NOTHING, 6),
-    (1, Step::Ready, 7, NOTHING, 7),
-    (3, Step::Ready, 7, NOTHING, 7),
-    (2, Step::Ready, 7, (0, true), 8),
-    (2, Step::Ready, 7, NOTHING, 8),
-    (1, Step::Echo, 8, NOTHING, 8),
-    (0, Step::Initial, 7, NOTHING, 8),
+// The messages that process 2 gets about an item of process 0: sender, step and body. Then how many it posts, whether it
+// accepts, and how many bodies it has heard. Here E = 3, R = 2 and A = 3.
+const LIFE: [(u64, Step, u64, u64, bool, usize); 20] = [
+    (1, Step::Initial, 7, 0, false, 0),
+    (0, Step::Initial, 7, 4, false, 0),
+    (0, Step::Initial, 7, 0, false, 0),
+    (0, Step::Initial, 8, 0, false, 0),
+    (0, Step::Echo, 7, 0, false, 1),
+    (0, Step::Echo, 7, 0, false, 1),
+    (0, Step::Echo, 8, 0, false, 1),
+    (3, Step::Echo, 8, 0, false, 2),
+    (1, Step::Echo, 7, 0, false, 3),
+    (2, Step::Echo, 7, 4, false, 4),
+    (2, Step::Echo, 7, 0, false, 4),
+    (0, Step::Ready, 7, 0, false, 5),
+    (0, Step::Ready, 7, 0, false, 5),
+    (3, Step::Ready, 8, 0, false, 6),
+    (1, Step::Ready, 7, 0, false, 7),
+    (3, Step::Ready, 7, 0, false, 7),
+    (2, Step::Ready, 7, 0, true, 8),
+    (2, Step::Ready, 7, 0, false, 8),
+    (1, Step::Echo, 8, 0, false, 8),
+    (0, Step::Initial, 7, 0, false, 8),
 ];
 
 #[test]
@@ -94,37 +98,51 @@ fn repeats_and_latecomers_change_nothing(rt: HostRuntime) -> Result<(), Fail> {
     };
     let carrier = &mut Pile::new(&mut places);
     let mut hall = Hall::new(line, memory, carrier);
-    for (sender, step, body, expected, bodies) in LIFE {
+    for (sender, step, body, posted, accepted, bodies) in LIFE {
         let message = Message::new(sender, 2, step, ITEM, body)?;
-        assert_eq!(rt; hall.give(message), Ok(expected));
+        assert_eq!(rt; hall.give(message), Ok(Delivered { posted, accepted }));
         assert_eq!(rt; hall.heard(), bodies);
     }
     assert_eq!(rt; hall.free(), 9);
-    assert_eq!(rt; hall.read::<Tag>(2, ITEM), Ok(Some(Some(7))));
+    assert_eq!(rt; hall.read::<Tag>(2, ITEM), Ok(Reading::Value(7)));
     Ok(())
 }
 
 // Every body place holds 7, and three serials are past the plan's only one. A stage, a message from process 0 to
-// process 1, what that does, and what is read then.
-const ODDITIES: [(Stage, Step, u64, (u64, bool), Option<Option<u64>>); 13] = [
-    (Stage::Silent, Step::Initial, 8, (4, false), None),
-    (Stage::Silent, Step::Echo, 7, (8, false), None),
-    (Stage::Silent, Step::Echo, 8, NOTHING, None),
-    (Stage::Silent, Step::Ready, 7, (8, true), Some(Some(7))),
-    (Stage::Silent, Step::Ready, 8, NOTHING, None),
-    (Stage::Echoed, Step::Initial, 8, NOTHING, None),
-    (Stage::Echoed, Step::Echo, 7, (4, false), None),
-    (Stage::Echoed, Step::Ready, 7, (4, true), Some(Some(7))),
-    (Stage::Readied, Step::Echo, 7, NOTHING, None),
-    (Stage::Readied, Step::Ready, 7, (0, true), Some(Some(7))),
-    (Stage::Readied, Step::Ready, 8, NOTHING, None),
-    (Stage::Accepted(0), Step::Ready, 7, NOTHING, Some(None)),
-    (Stage::Accepted(5), Step::Ready, 7, NOTHING, Some(Some(5))),
+// process 1, how many that posts, whether it accepts, and what is read then.
+const ODDITIES: [(Stage, Step, u64, u64, bool, Reading<u64>); 13] = [
+    (Stage::Silent, Step::Initial, 8, 4, false, Reading::Nothing),
+    (Stage::Silent, Step::Echo, 7, 8, false, Reading::Nothing),
+    (Stage::Silent, Step::Echo, 8, 0, false, Reading::Nothing),
+    (Stage::Silent, Step::Ready, 7, 8, true, Reading::Value(7)),
+    (Stage::Silent, Step::Ready, 8, 0, false, Reading::Nothing),
+    (Stage::Echoed, Step::Initial, 8, 0, false, Reading::Nothing),
+    (Stage::Echoed, Step::Echo, 7, 4, false, Reading::Nothing),
+    (Stage::Echoed, Step::Ready, 7, 4, true, Reading::Value(7)),
+    (Stage::Readied, Step::Echo, 7, 0, false, Reading::Nothing),
+    (Stage::Readied, Step::Ready, 7, 0, true, Reading::Value(7)),
+    (Stage::Readied, Step::Ready, 8, 0, false, Reading::Nothing),
+    (
+        Stage::Accepted(0),
+        Step::Ready,
+        7,
+        0,
+        false,
+        Reading::Unreadable,
+    ),
+    (
+        Stage::Accepted(5),
+        Step::Ready,
+        7,
+        0,
+        false,
+        Reading::Value(5),
+    ),
 ];
 
 #[test]
 fn a_call_goes_by_what_it_finds(rt: HostRuntime) -> Result<(), Fail> {
-    for (stage, step, body, expected, reading) in ODDITIES {
+    for (stage, step, body, posted, accepted, reading) in ODDITIES {
         let mut places = [Message::BLANK; 9];
         let line = Line::from(Draft::new(Plan::new(4, 1, 1, 0, 1)?));
         let memory = &mut Memory {
@@ -137,7 +155,7 @@ fn a_call_goes_by_what_it_finds(rt: HostRuntime) -> Result<(), Fail> {
         let mut hall = Hall::new(line, memory, carrier);
         let value = Tag::new(5)?;
         let message = Message::new(0, 1, step, ITEM, body)?;
-        assert_eq!(rt; hall.give(message), Ok(expected));
+        assert_eq!(rt; hall.give(message), Ok(Delivered { posted, accepted }));
         assert_eq!(rt; hall.read::<Tag>(1, ITEM), Ok(reading));
         for process in 0..3 {
             assert_eq!(rt; hall.announce(process, &value), Err(Refusal::SerialsUsedUp));
@@ -161,12 +179,16 @@ fn opening_clears_what_is_needed_and_no_more(rt: HostRuntime) -> Result<(), Fail
     assert_eq!(rt; memory.case_record(0).round, 0);
     let mut hall = Hall::new(line, memory, carrier);
     assert_eq!(rt; hall.heard(), 1);
-    assert_eq!(rt; hall.read::<Tag>(0, ballot(0, 0, 3)), Ok(None));
-    assert_eq!(rt; hall.announce(0, &Tag::new(5)?), Ok((0, 1)));
-    for expected in [(1, false), (1, false), (0, true)] {
-        assert_eq!(rt; hall.deliver(0, 0), Ok(expected));
+    assert_eq!(rt; hall.read::<Tag>(0, ballot(0, 0, 3)), Ok(Reading::Nothing));
+    let announced = Announced {
+        serial: 0,
+        posted: 1,
+    };
+    assert_eq!(rt; hall.announce(0, &Tag::new(5)?), Ok(announced));
+    for (posted, accepted) in [(1, false), (1, false), (0, true)] {
+        assert_eq!(rt; hall.deliver(0, 0), Ok(Delivered { posted, accepted }));
     }
-    assert_eq!(rt; hall.read::<Tag>(0, ITEM), Ok(Some(Some(5))));
+    assert_eq!(rt; hall.read::<Tag>(0, ITEM), Ok(Reading::Value(5)));
     assert_eq!(rt; hall.heard(), 3);
     assert_eq!(rt; memory.case_record(1).round, 200);
     assert_eq!(rt; memory.next_serial(1), 255);
@@ -190,11 +212,11 @@ fn reading_finds_the_record(rt: HostRuntime) -> Result<(), Fail> {
     let carrier = &mut Queue::new(&mut []);
     let hall = Hall::new(line, memory, carrier);
     let rows = [
-        (2, item(3, 1), Ok(Some(Some(3)))),
-        (2, item(3, 0), Ok(None)),
-        (2, ballot(3, 0, 1), Ok(None)),
-        (2, item(2, 1), Ok(None)),
-        (1, item(3, 1), Ok(None)),
+        (2, item(3, 1), Ok(Reading::Value(3))),
+        (2, item(3, 0), Ok(Reading::Nothing)),
+        (2, ballot(3, 0, 1), Ok(Reading::Nothing)),
+        (2, item(2, 1), Ok(Reading::Nothing)),
+        (1, item(3, 1), Ok(Reading::Nothing)),
         (4, item(0, 0), Err(Refusal::ProcessOutOfRange)),
         (u64::MAX, item(4, 0), Err(Refusal::ProcessOutOfRange)),
         (3, item(3, 1), Err(Refusal::WrongRole)),
@@ -208,7 +230,7 @@ fn reading_finds_the_record(rt: HostRuntime) -> Result<(), Fail> {
     for (process, subject, expected) in rows {
         assert_eq!(rt; hall.read::<Tag>(process, subject), expected);
     }
-    assert_eq!(rt; hall.read::<Ballot>(2, item(3, 1)), Ok(Some(Some(3))));
-    assert_eq!(rt; hall.read::<Record>(2, item(3, 1)), Ok(Some(None)));
+    assert_eq!(rt; hall.read::<Ballot>(2, item(3, 1)), Ok(Reading::Value(3)));
+    assert_eq!(rt; hall.read::<Record>(2, item(3, 1)), Ok(Reading::Unreadable));
     Ok(())
 }

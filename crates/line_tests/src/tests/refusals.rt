@@ -7,6 +7,8 @@ use line::open_line;
 use memory::Memory;
 use plan::{Draft, Line, Plan};
 use protocol::{Message, Refusal, Step};
+use reading::Reading;
+use rules::{Announced, Delivered};
 use std::process::Abort;
 use std::test::Fail;
 use tray::Tray;
@@ -120,14 +122,19 @@ fn announcing_takes_serials_and_room(rt: HostRuntime) -> Result<(), Fail> {
     let line = line_of(Plan::new(4, 1, 2, 0, 1)?)?;
     let carrier = &mut Queue::new(&mut places);
     let mut hall = Hall::new(line, memory, carrier);
+    let first = Announced {
+        serial: 0,
+        posted: 4,
+    };
+    let second = Announced { serial: 1, ..first };
     let rows = [
-        (0, Ok((0, 4))),
-        (0, Ok((1, 4))),
+        (0, Ok(first)),
+        (0, Ok(second)),
         (0, Err(Refusal::SerialsUsedUp)),
         (3, Err(Refusal::WrongRole)),
         (4, Err(Refusal::ProcessOutOfRange)),
         (u64::MAX, Err(Refusal::ProcessOutOfRange)),
-        (2, Ok((1, 4))),
+        (2, Ok(second)),
         (2, Err(Refusal::SerialsUsedUp)),
         (3, Err(Refusal::WrongRole)),
         (1, Err(Refusal::NoRoom)),
@@ -186,7 +193,7 @@ fn delivers_in<C: Carrier>(
     rt: &impl Abort,
     memory: &mut Memory,
     carrier: &mut C,
-    expected: Result<(u64, bool), Refusal>,
+    expected: Result<Delivered, Refusal>,
     left: u32,
 ) -> Result<(), Fail> {
     let mut hall = Hall::new(line_of(Plan::new(4, 1, 1, 0, 1)?)?, memory, carrier);
@@ -199,9 +206,9 @@ fn delivers_in<C: Carrier>(
     if expected.is_err() {
         assert_eq!(rt; hall.free(), free);
         assert_eq!(rt; hall.waiting_for(0), 1);
-        assert_eq!(rt; hall.read::<Tag>(0, ITEM), Ok(None));
+        assert_eq!(rt; hall.read::<Tag>(0, ITEM), Ok(Reading::Nothing));
     }
-    assert_eq!(rt; hall.deliver(3, 0), Ok((0, false)));
+    assert_eq!(rt; hall.deliver(3, 0), Ok(NOTHING));
     assert_eq!(rt; hall.waiting_for(3), left);
     Ok(())
 }
@@ -209,10 +216,14 @@ fn delivers_in<C: Carrier>(
 // All body places hold 7, so that one ready of 7 takes process 0 through all stages: 8 messages, 2 of them for process 3.
 #[test]
 fn delivering_wants_room_for_two_to_each(rt: HostRuntime) -> Result<(), Fail> {
+    let accepted = Delivered {
+        posted: 8,
+        accepted: true,
+    };
     let rows = [
         (2, Err(Refusal::NoRoom), 0),
         (9, Err(Refusal::NoRoom), 0),
-        (10, Ok((8, true)), 2),
+        (10, Ok(accepted), 2),
     ];
     let mut memory = Memory {
         broadcasts: &mut [BroadcastRecord::SILENT; 16],
@@ -233,7 +244,7 @@ fn announces_in<C: Carrier>(
     rt: &impl Abort,
     memory: &mut Memory,
     carrier: &mut C,
-    expected: Result<(u64, u64), Refusal>,
+    expected: Result<Announced, Refusal>,
     free: u32,
 ) -> Result<(), Fail> {
     let mut hall = Hall::new(line_of(Plan::new(9, 2, 1, 0, 1)?)?, memory, carrier);
@@ -245,7 +256,11 @@ fn announces_in<C: Carrier>(
 // A tray with its 8 places over none or one.
 #[test]
 fn announcing_wants_room_for_one_to_each(rt: HostRuntime) -> Result<(), Fail> {
-    let rows = [(0, Err(Refusal::NoRoom), 8), (1, Ok((0, 9)), 0)];
+    let announced = Announced {
+        serial: 0,
+        posted: 9,
+    };
+    let rows = [(0, Err(Refusal::NoRoom), 8), (1, Ok(announced), 0)];
     let mut memory = Memory {
         broadcasts: &mut [BroadcastRecord::SILENT; 81],
         bodies: &mut [None; 1458],
