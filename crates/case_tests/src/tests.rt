@@ -7,3 +7,4 @@ mod resting;
 mod running;
 mod slipping;
 mod tossing;
+mod valid;

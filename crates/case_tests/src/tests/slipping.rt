@@ -184,3 +184,33 @@ fn a_slip_is_taken_where_its_numbers_are_out(rt: HostRuntime) -> Result<(), Fail
     assert_eq!(rt; memory.case_record(0), decided(Side::Release, Slip::Absent));
     Ok(())
 }
+
+// Two slips with the same numbers, of two memories. Where the first was given back, the second is refused and comes back.
+#[test]
+fn a_second_slip_in_a_row_comes_back(rt: HostRuntime) -> Result<(), Fail> {
+    let line = Line::from(Draft::new(Plan::new(1, 0, 0, 1, 1)?));
+    let memory = &mut Memory {
+        broadcasts: &mut [BroadcastRecord::SILENT; 3],
+        bodies: &mut [None; 6],
+        cases: &mut [decided(Side::Release, Slip::Absent)],
+        serials: &mut [0],
+    };
+    let home = &mut Memory {
+        broadcasts: &mut [BroadcastRecord::SILENT; 3],
+        bodies: &mut [None; 6],
+        cases: &mut [decided(Side::Release, Slip::Absent)],
+        serials: &mut [0],
+    };
+    let first = issue(&line, memory, 0, 0)?;
+    let second = issue(&line, home, 0, 0).expect(&rt, "it decided release here too");
+    taken(&rt, hand_over(&line, memory, first));
+    let second = refused(&rt, hand_over(&line, memory, second), Refusal::SlipRefused);
+    let second = refused(&rt, put_back(&line, memory, second), Refusal::SlipRefused);
+    assert_eq!(rt;
+        memory.case_record(0),
+        decided(Side::Release, Slip::HandedOver)
+    );
+    taken(&rt, put_back(&line, home, second));
+    assert_eq!(rt; home.case_record(0), decided(Side::Release, Slip::Absent));
+    Ok(())
+}
