@@ -17,6 +17,26 @@ fn a_script_has_a_limit(rt: HostRuntime) -> Result<(), Fail> {
     Ok(())
 }
 
+// The first example of docs/SCRIPT.md, and the two deliveries after it.
+#[test]
+fn one_process_hears_itself(rt: HostRuntime) -> Result<(), Fail> {
+    let script = b"(line (counters 1) (tolerate 0) (strange))
+(announce (counter 0) (tag 5))
+(deliver (counter 0) (pick 0))
+(deliver (counter 0) (pick 0))
+(deliver (counter 0) (pick 0))
+";
+    let answers = b"(opened)
+(announced (serial 0) (sent 1))
+(took (sent 1) (entered 0))
+(took (sent 1) (entered 0))
+(took (sent 0) (entered 1))
+";
+    let text = rehearse(rt.alloc(), script)?;
+    assert!(rt; text.as_bytes() == answers.as_slice());
+    Ok(())
+}
+
 // One process decides alone: three deliveries for each of nine rounds.
 #[test]
 fn a_case_ends_after_nine_rounds(rt: HostRuntime) -> Result<(), Fail> {
