@@ -6,7 +6,7 @@ use memory::{BroadcastRecord, CaseRecord, Decision, Memory};
 use plan::{Draft, Plan};
 use protocol::{Message, Side};
 use rules::Advanced;
-use runs::{Answer, Turn, perform, run};
+use runs::{Answer, Turn, perform, run, run_shared};
 use std::test::Fail;
 
 fn deliver() -> Turn<Tag> {
@@ -82,5 +82,27 @@ fn a_run_is_a_list_of_turns(rt: HostRuntime) -> Result<(), Fail> {
         phase: 1,
     };
     assert_eq!(rt; memory.case_record(0).decision, Some(decided));
+    Ok(())
+}
+
+// Over a shared coin the same turns do the same.
+#[test]
+fn a_shared_run_is_one_too(rt: HostRuntime) -> Result<(), Fail> {
+    let mut places = [Message::BLANK; 3];
+    let mut carrier = Queue::new(&mut places);
+    let mut memory = Memory {
+        broadcasts: &mut [BroadcastRecord::SILENT; 4],
+        bodies: &mut [None; 8],
+        cases: &mut [CaseRecord::UNOPENED],
+        serials: &mut [9],
+    };
+    let draft = Draft::new(Plan::new(1, 0, 1, 1, 1)?);
+    let turns = turns(Tag::new(5)?);
+    let coin = WordCoin::new(0);
+    let opened = run_shared(draft, &mut memory, &mut carrier, &coin, &turns);
+    opened.map_err(|(refusal, _draft)| refusal)?;
+    assert!(rt; is_idle(&carrier));
+    assert_eq!(rt; memory.next_serial(0), 1);
+    assert_eq!(rt; memory.case_record(0).round, 3);
     Ok(())
 }
