@@ -106,3 +106,21 @@ fn a_shared_run_is_one_too(rt: HostRuntime) -> Result<(), Fail> {
     assert_eq!(rt; memory.case_record(0).round, 3);
     Ok(())
 }
+
+#[test]
+fn a_shared_run_may_have_no_turn(rt: HostRuntime) -> Result<(), Fail> {
+    let mut carrier = Queue::new(&mut []);
+    let mut memory = Memory {
+        broadcasts: &mut [BroadcastRecord::SILENT; 4],
+        bodies: &mut [None; 8],
+        cases: &mut [CaseRecord::UNOPENED],
+        serials: &mut [9],
+    };
+    let draft = Draft::new(Plan::new(1, 0, 1, 1, 1)?);
+    let none: [Turn<Tag>; 0] = [];
+    let coin = WordCoin::new(0);
+    let opened = run_shared(draft, &mut memory, &mut carrier, &coin, &none);
+    opened.map_err(|(refusal, _draft)| refusal)?;
+    assert_eq!(rt; memory.next_serial(0), 0);
+    Ok(())
+}
