@@ -9,7 +9,8 @@ use Rattle.protocol.specs.Messages.{message}
 use Rattle.protocol.proofs.Bags.{count_none}
 use Rattle.agreement.specs.Worlds.{Correct}
 use Rattle.agreement.specs.Records.{hear, support, handle}
-use Rattle.agreement.specs.Runs.{State, start, told, received, tell, deliver, Run, begun, after, to_all, spread}
+use Rattle.protocol.specs.Sending.{to_all}
+use Rattle.agreement.specs.Runs.{State, start, told, received, tell, deliver, Run, begun, after, spread}
 use Rattle.agreement.specs.Broadcasts.{alone, Happens}
 use Rattle.agreement.proofs.Counts.{counted_lawful}
 
@@ -45,7 +46,7 @@ unfolding handle hear support below message
 happens = record {
   lawful = counted_lawful 1 0 1 1 1 (λ _. false) (omega arith) (omega arith) (record { meet = omega arith; echoes = omega arith; one_correct = omega arith; enough = omega arith; accepts = omega arith });
   run = run;
-  rest = λ i c. count_none _;
+  quiet = λ i c. count_none _;
   told = refl;
   accepted = refl;
 }

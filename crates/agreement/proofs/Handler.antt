@@ -4,7 +4,7 @@ use Rattle.std.proofs.lemmas.Bool.{both_ways, eqb-true, leb-true, le-leb, or_lef
 use Rattle.protocol.specs.declared.messages.Step.{Step}
 use Rattle.protocol.specs.declared.messages.Step.TheVariants.{Initial, Echo, Ready}
 use Rattle.agreement.specs.Worlds.{World, Lawful}
-use Rattle.agreement.specs.Records.{Rec, when, hear, support, receive, unless, handle}
+use Rattle.agreement.specs.Records.{Rec, when, hear, support, receive, once_accepted, handle}
 use Rattle.agreement.proofs.Bodies.{has_some, some_has, is_some, when_stays, when_keeps, when_some, when_from, in_turn, hear_keeps, hear_here, hear_from}
 
 -- what a record holds of another process's echo or ready
@@ -195,7 +195,7 @@ module _ (w : World) (law : Lawful w) (o : ℕ) (M : Step → ℕ → ℕ → Ty
   unfolding handle
   handle_moves step m = go r.accepted
     where
-      go : (a : Option ℕ) → Moves w o M r (unless a (receive w o step k b r) r)
+      go : (a : Option ℕ) → Moves w o M r (once_accepted a (receive w o step k b r) r)
       go None = by_message step m
       go (Some c) = stands w o M r
 
@@ -214,6 +214,6 @@ handle_settles w o step k b r h = go r.accepted refl
     arrives Echo e = hear_here r.echo k b
     arrives Ready e = hear_here r.ready k b
 
-    go : (a : Option ℕ) → r.accepted ≡ a → settled (unless a (receive w o step k b r) r) step k ≡ true
+    go : (a : Option ℕ) → r.accepted ≡ a → settled (once_accepted a (receive w o step k b r) r) step k ≡ true
     go None e = or_right _ _ (arrives step h)
     go (Some c) e = or_left _ _ (is_some r.accepted c e)

@@ -8,7 +8,7 @@ use Rattle.protocol.specs.Messages.{originator_of}
 use Rattle.agreement.specs.Worlds.{World, Correct, Lawful}
 use Rattle.agreement.specs.Records.{Rec}
 use Rattle.agreement.specs.Runs.{State}
-use Rattle.agreement.specs.Broadcasts.{AtRest, accepted_at}
+use Rattle.agreement.specs.Broadcasts.{Quiet, accepted_at}
 use Rattle.agreement.proofs.Bodies.{some_of, some_once}
 use Rattle.agreement.proofs.Weights.{support_left, support_full, backer, quorums_meet}
 use Rattle.agreement.proofs.Handler.{heard, arrived}
@@ -33,7 +33,7 @@ module _ (w : World) (law : Lawful w) (s : Subject) (st : State) (inv : Inv w s 
   pub accept_told : (i b : ℕ) → Correct w (originator_of s) → Correct w i → accepted_at st i s ≡ Some b → st.said s ≡ Some b
   accept_told i b co ci e = let k = readier i b ci e in quorum_told w law s st inv b co (inv.readied k.0 b k.1 k.2)
 
-  module _ (rest : AtRest w st) where
+  module _ (rest : Quiet w st) where
     -- what was sent was heard, unless it is not needed any more
     landed : (k i : ℕ) (step : Step) (b : ℕ) → Correct w k → Correct w i → says st s k step ≡ Some b → (is_some (accepted_at st i s) ≡ true) ⊎ (arrived (st.recs i s) step k ≡ true)
     landed k i step b ck ci e =

@@ -1,17 +1,18 @@
 -- The invariant holds in every state of a run, and with it the theorem.
-use Rattle.std.proofs.Common.{◌≡◌, ℕ, zero, suc, ◌<◌, ◌≤◌, Bool, false, leb, List, ◌∷◌, ◌++◌, Some, None, Option, sym, refl, ◌∙◌, subst, ⊎_elim, arith}
+use Rattle.std.proofs.Common.{◌≡◌, ℕ, zero, suc, ◌<◌, ◌≤◌, Bool, false, leb, List, [], ◌∷◌, ◌++◌, Some, None, Option, sym, refl, ◌∙◌, subst, ⊎_elim, arith}
 use Rattle.std.proofs.lemmas.Bool.{lt-leb, cond-false, cond_both}
 use Rattle.protocol.specs.declared.messages.Message.{Message}
 use Rattle.protocol.specs.declared.messages.Step.{Step}
 use Rattle.protocol.specs.declared.messages.Step.TheVariants.{Initial, Echo, Ready}
 use Rattle.protocol.specs.declared.messages.Subject.{Subject}
 use Rattle.protocol.specs.Bags.{count}
-use Rattle.protocol.specs.Messages.{originator_of}
+use Rattle.protocol.specs.Messages.{message, originator_of}
 use Rattle.protocol.proofs.Bags.{count_none, count_cons, count_append}
 use Rattle.protocol.proofs.Parts.{sender_of}
 use Rattle.agreement.specs.Worlds.{World, Lawful}
-use Rattle.agreement.specs.Records.{Rec, support, receive, unless, handle}
-use Rattle.agreement.specs.Runs.{State, Turn, tell, forge, drop, deliver, Run, begun, after, start, blank, to_all, spread, delivered}
+use Rattle.agreement.specs.Records.{Rec, support, receive, once_accepted, handle}
+use Rattle.protocol.specs.Sending.{to_all}
+use Rattle.agreement.specs.Runs.{State, Turn, tell, forge, drop, deliver, Run, begun, after, start, blank, spread, delivered}
 use Rattle.agreement.specs.Broadcasts.{Broadcasts, Lasts}
 use Rattle.agreement.proofs.Bodies.{none_some, some_if, when_stays}
 use Rattle.agreement.proofs.Weights.{quorum_heavy}
@@ -67,7 +68,8 @@ module _ (w : World) (law : Lawful w) where
   unfolding to_all
   all_known zero k step s b l = count_none strange
   all_known (suc n) k step s b l =
-      known _ _ (subst (λ j. j < w.n) (sym (sender_of k n step s b (omega (arith, law.named)))) l) ∙ all_known n k step s b l
+      let here = known (message k n step s b) [] (subst (λ j. j < w.n) (sym (sender_of k n step s b (omega (arith, law.named)))) l) in
+      omega (arith, count_append strange (to_all n k step s b) (message k n step s b ∷ []), here, count_none strange, all_known n k step s b l)
 
   spread_known : (n k : ℕ) (step : Step) (s : Subject) (old new : Option ℕ) → k < w.n → count strange (spread n k step s old new) ≡ 0
   unfolding spread
@@ -106,7 +108,7 @@ handle_accepted : (w : World) (o : ℕ) (step : Step) (k b : ℕ) (r : Rec) (c :
 unfolding handle
 handle_accepted w o step k b r c e = go r.accepted refl
   where
-    go : (a : Option ℕ) → r.accepted ≡ a → (unless a (receive w o step k b r) r).accepted ≡ Some c
+    go : (a : Option ℕ) → r.accepted ≡ a → (once_accepted a (receive w o step k b r) r).accepted ≡ Some c
     go None n = absurd (none_some r.accepted c n e)
     go (Some d) n = e
 

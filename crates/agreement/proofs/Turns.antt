@@ -10,7 +10,8 @@ use Rattle.protocol.specs.Messages.{originator_of}
 use Rattle.protocol.proofs.Bags.{same_sym}
 use Rattle.agreement.specs.Worlds.{World, Correct, Lawful}
 use Rattle.agreement.specs.Records.{Rec, when, handle}
-use Rattle.agreement.specs.Runs.{State, Turn, tell, forge, drop, deliver, same_subject, to_all, spread, delivered, answers, told, leaving, received}
+use Rattle.protocol.specs.Sending.{to_all}
+use Rattle.agreement.specs.Runs.{State, Turn, tell, forge, drop, deliver, same_subject, spread, delivered, answers, told, leaving, received}
 use Rattle.agreement.proofs.Bodies.{some_if, when_stays, when_set, when_from}
 use Rattle.agreement.proofs.Handler.{Moves, stands, handle_moves, handle_settles, due, settled}
 use Rattle.agreement.proofs.Waiting.{waits, waits_same, waits_here, waits_there, waits_cons, waits_left, waits_right, waits_append, to_all_waits, to_all_told, Told, told_gives, Is, spread_told, spread_waits, same_subject_true, subject_same}

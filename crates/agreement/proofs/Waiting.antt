@@ -7,12 +7,13 @@ use Rattle.protocol.specs.declared.messages.Step.{Step}
 use Rattle.protocol.specs.declared.messages.Step.TheVariants.{Initial, Echo, Ready}
 use Rattle.protocol.specs.declared.messages.Subject.{Subject}
 use Rattle.protocol.specs.declared.messages.Subject.TheVariants.{Item, Ballot}
-use Rattle.protocol.specs.Bags.{count, Same}
+use Rattle.protocol.specs.Bags.{count, Same, addressed, waiting_for}
 use Rattle.protocol.specs.Messages.{message}
 use Rattle.protocol.proofs.Bags.{count_none, count_cons, count_append}
 use Rattle.protocol.proofs.Counting.{one_more}
 use Rattle.protocol.proofs.Parts.{sender_of, addressee_of, step_of, subject_of, body_of}
-use Rattle.agreement.specs.Runs.{same_subject, to_all, spread}
+use Rattle.protocol.specs.Sending.{to_all}
+use Rattle.agreement.specs.Runs.{same_subject, spread}
 use Rattle.agreement.proofs.Bodies.{some_once}
 
 pub same_subject_true : (s u : Subject) → same_subject s u ≡ true → s ≡ u
@@ -126,25 +127,25 @@ module _ (k i : ℕ) (step : Step) (s : Subject) (b : ℕ) where
       (cases_lt 0 (count (fits k i step s b) xs))
 
   -- what waits for i is counted among what waits for i
-  pub waits_counted : (ms : List Message) → waits ms k i step s b → 1 ≤ count (λ m. eqb m.addressee i) ms
+  pub waits_counted : (ms : List Message) → waits ms k i step s b → 1 ≤ waiting_for i ms
   unfolding waits
   waits_counted ms h =
-      omega (arith, count_within (fits k i step s b) (λ m. eqb m.addressee i) (λ m e. eq-eqb _ _ (fits_is k i step s b m e).to) ms)
+      omega (arith, count_within (fits k i step s b) (addressed i) (λ m e. eq-eqb _ _ (fits_is k i step s b m e).to) ms)
 
 -- what is sent to all below n
 pub to_all_waits : (n k i : ℕ) (step : Step) (s : Subject) (b : ℕ) → n ≤ 16 → k < 16 → i < n → waits (to_all n k step s b) k i step s b
 unfolding to_all
 to_all_waits zero k i step s b small lk li = absurd (omega arith)
 to_all_waits (suc n) k i step s b small lk li =
-    ⊎_elim (λ (l : i < n). waits_there k i step s b _ _ (to_all_waits n k i step s b (omega arith) lk l)) (λ (l : n ≤ i).
+    ⊎_elim (λ (l : i < n). waits_left k i step s b _ _ (to_all_waits n k i step s b (omega arith) lk l)) (λ (l : n ≤ i).
     let is : n ≡ i = omega arith in
-    waits_here k i step s b _ _ (record {
+    waits_right k i step s b (to_all n k step s b) _ (waits_here k i step s b _ [] (record {
       from = sender_of k n step s b lk;
       to = addressee_of k n step s b (omega arith) ∙ is;
       at = step_of k n step s b;
       of = subject_of k n step s b;
       holds = body_of k n step s b;
-    }))
+    })))
     (cases_lt i n)
 
 -- a message that was sent to all tells what was sent
@@ -161,7 +162,7 @@ module _ (k k₁ i₁ : ℕ) (step step₁ : Step) (s s₁ : Subject) (b b₁ : 
   pub to_all_told : (n : ℕ) → waits (to_all n k step s b) k₁ i₁ step₁ s₁ b₁ → Told k step s b k₁ step₁ s₁ b₁
   unfolding to_all
   to_all_told zero h = absurd (waits_none k₁ i₁ step₁ s₁ b₁ h)
-  to_all_told (suc n) h = ⊎_elim here (to_all_told n) (waits_cons k₁ i₁ step₁ s₁ b₁ _ _ h)
+  to_all_told (suc n) h = ⊎_elim (to_all_told n) last (waits_append k₁ i₁ step₁ s₁ b₁ (to_all n k step s b) _ h)
     where
       here : Is (message k n step s b) k₁ i₁ step₁ s₁ b₁ → Told k step s b k₁ step₁ s₁ b₁
       here e = record {
@@ -170,6 +171,9 @@ module _ (k k₁ i₁ : ℕ) (step step₁ : Step) (s s₁ : Subject) (b b₁ : 
         of = sym (subject_of k n step s b) ∙ e.of;
         holds = sym (body_of k n step s b) ∙ e.holds;
       }
+
+      last : waits (message k n step s b ∷ []) k₁ i₁ step₁ s₁ b₁ → Told k step s b k₁ step₁ s₁ b₁
+      last w = ⊎_elim here (λ x. absurd (waits_none k₁ i₁ step₁ s₁ b₁ x)) (waits_cons k₁ i₁ step₁ s₁ b₁ _ [] w)
 
 -- what is spread is new
 pub spread_told : (n k k₁ i₁ : ℕ) (step step₁ : Step) (s s₁ : Subject) (b₁ : ℕ) (before after : Option ℕ) → k < 16 → waits (spread n k step s before after) k₁ i₁ step₁ s₁ b₁ → (b : ℕ) × (after ≡ Some b) × Told k step s b k₁ step₁ s₁ b₁

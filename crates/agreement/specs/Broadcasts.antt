@@ -1,9 +1,10 @@
 -- What holds of broadcasts in every state of a run.
-use Rattle.std.specs.Prelude.{◌≡◌, ℕ, ◌≤◌, Bool, true, false, is_some, Some, Option, nat_eq, nat_le}
+use Rattle.std.specs.Prelude.{◌≡◌, ℕ, ◌≤◌, Bool, true, false, is_some, Some, Option, nat_le}
 use Rattle.protocol.specs.declared.messages.Subject.{Subject}
 use Rattle.protocol.specs.declared.messages.Subject.TheVariants.{Item}
 use Rattle.protocol.specs.Bags.{count}
 use Rattle.protocol.specs.Counting.{below}
+use Rattle.protocol.specs.Faults.{QuietOf}
 use Rattle.protocol.specs.Messages.{originator_of}
 use Rattle.agreement.specs.Worlds.{World, Correct, Lawful, counted}
 use Rattle.protocol.specs.Thresholds.{Sound}
@@ -13,17 +14,17 @@ abbrev pub accepted_at : State → ℕ → Subject → Option ℕ
 accepted_at st i s = (st.recs i s).accepted
 
 -- nothing waits for a correct process
-abbrev pub AtRest : World → State → Type 0
-AtRest w st = (i : ℕ) → Correct w i → count (λ m. nat_eq m.addressee i) st.waiting ≡ 0
+abbrev pub Quiet : World → State → Type 0
+Quiet w st = QuietOf w.n w.faulty st.waiting
 
 pub record Broadcasts (w : World) (st : State) : Type 0 where
   -- Correct processes accept alike.
   pub agreement : (s : Subject) (i j b c : ℕ) → Correct w i → Correct w j → accepted_at st i s ≡ Some b → accepted_at st j s ≡ Some c → b ≡ c
   -- What is accepted from a correct originator is what it told.
   pub validity : (s : Subject) (i b : ℕ) → Correct w (originator_of s) → Correct w i → accepted_at st i s ≡ Some b → st.said s ≡ Some b
-  -- At rest, what one accepted all did, and what a correct originator told.
-  pub totality : AtRest w st → (s : Subject) (i j b : ℕ) → Correct w i → Correct w j → accepted_at st i s ≡ Some b → accepted_at st j s ≡ Some b
-  pub delivery : AtRest w st → (s : Subject) (j b : ℕ) → Correct w (originator_of s) → Correct w j → st.said s ≡ Some b → accepted_at st j s ≡ Some b
+  -- Once nothing waits for them, what one accepted all did, and what a correct originator told.
+  pub totality : Quiet w st → (s : Subject) (i j b : ℕ) → Correct w i → Correct w j → accepted_at st i s ≡ Some b → accepted_at st j s ≡ Some b
+  pub delivery : Quiet w st → (s : Subject) (j b : ℕ) → Correct w (originator_of s) → Correct w j → st.said s ≡ Some b → accepted_at st j s ≡ Some b
   -- A process that accepted sent ready, and one that sent ready echoed.
   pub ready_first : (s : Subject) (i : ℕ) → Correct w i → is_some (accepted_at st i s) ≡ true → is_some (st.recs i s).readied ≡ true
   pub echo_first : (s : Subject) (i : ℕ) → Correct w i → is_some (st.recs i s).readied ≡ true → is_some (st.recs i s).echoed ≡ true
@@ -46,13 +47,13 @@ pub record Lasts (st next : State) : Type 0 where
 abbrev pub Lasting : Type 0
 Lasting = (w : World) (st next : State) → Turn w st next → Lasts st next
 
--- a world of one process, and what may happen in it: process 0 told body 5 under serial 0, accepted it and is at rest
+-- a world of one process, and what may happen in it: process 0 told body 5 under serial 0, accepted it, and nothing waits for it
 abbrev pub alone : World
 alone = counted 1 0 1 1 1 (λ _. false)
 
 pub record Happens (st : State) : Type 0 where
   pub lawful : Lawful alone
   pub run : Run alone st
-  pub rest : AtRest alone st
+  pub quiet : Quiet alone st
   pub told : st.said (Item 0 0) ≡ Some 5
   pub accepted : accepted_at st 0 (Item 0 0) ≡ Some 5

@@ -65,9 +65,9 @@ receive w o Ready k b r =
     }
 
 -- Once a body is accepted nothing changes.
-abbrev pub unless : Option ℕ → Rec → Rec → Rec
-unless None new old = new
-unless (Some c) new old = old
+abbrev pub once_accepted : Option ℕ → Rec → Rec → Rec
+once_accepted None new old = new
+once_accepted (Some c) new old = old
 
 unfoldable pub handle : World → ℕ → Step → ℕ → ℕ → Rec → Rec
-handle w o step k b r = unless r.accepted (receive w o step k b r) r
+handle w o step k b r = once_accepted r.accepted (receive w o step k b r) r

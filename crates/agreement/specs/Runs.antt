@@ -1,12 +1,13 @@
 -- The machine: processes that broadcast, and any order of delivery. Its turns are relations, since what waits is a bag.
-use Rattle.std.specs.Prelude.{◌≡◌, ℕ, zero, suc, ◌<◌, Bool, true, false, cond, ◌&&◌, List, [], ◌∷◌, ◌++◌, Some, None, Option, ◌==◌}
+use Rattle.std.specs.Prelude.{◌≡◌, ℕ, ◌<◌, Bool, true, false, cond, ◌&&◌, List, [], ◌∷◌, ◌++◌, Some, None, Option, ◌==◌}
 use Rattle.protocol.specs.declared.messages.Message.{Message}
 use Rattle.protocol.specs.declared.messages.Step.{Step}
 use Rattle.protocol.specs.declared.messages.Step.TheVariants.{Initial, Echo, Ready}
 use Rattle.protocol.specs.declared.messages.Subject.{Subject}
 use Rattle.protocol.specs.declared.messages.Subject.TheVariants.{Item, Ballot}
 use Rattle.protocol.specs.Bags.{Same}
-use Rattle.protocol.specs.Messages.{message, originator_of}
+use Rattle.protocol.specs.Messages.{originator_of}
+use Rattle.protocol.specs.Sending.{to_all}
 use Rattle.agreement.specs.Worlds.{World, Correct}
 use Rattle.agreement.specs.Records.{Rec, when, handle}
 
@@ -29,11 +30,6 @@ same_subject (Item i s) (Item j u) = i == j && s == u
 same_subject (Item i s) (Ballot j d q) = false
 same_subject (Ballot i c r) (Item j u) = false
 same_subject (Ballot i c r) (Ballot j d q) = i == j && (c == d && r == q)
-
--- a message of process i to each process below n
-unfoldable pub to_all : ℕ → ℕ → Step → Subject → ℕ → List Message
-to_all zero i step s b = []
-to_all (suc n) i step s b = message i n step s b ∷ to_all n i step s b
 
 -- a body that was not there before is sent
 unfoldable pub spread : ℕ → ℕ → Step → Subject → Option ℕ → Option ℕ → List Message

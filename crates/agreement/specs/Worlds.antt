@@ -1,6 +1,7 @@
 -- Who takes part, who is faulty, how sets of processes are weighed, and from which weight on a process acts.
-use Rattle.std.specs.Prelude.{◌≡◌, ℕ, ◌+◌, ◌-◌, ◌*◌, ◌<◌, ◌≤◌, Bool, true, false, ◌&&◌, ◌||◌}
+use Rattle.std.specs.Prelude.{◌≡◌, ℕ, ◌+◌, ◌<◌, ◌≤◌, Bool, true, false, ◌&&◌, ◌||◌}
 use Rattle.protocol.specs.Counting.{below}
+use Rattle.protocol.specs.Faults.{CorrectOf}
 use Rattle.protocol.specs.Thresholds.{Sound}
 
 pub record World : Type 0 where
@@ -16,7 +17,7 @@ pub record World : Type 0 where
   pub accept : ℕ
 
 abbrev pub Correct : World → ℕ → Type 0
-Correct w i = (i < w.n) × (w.faulty i ≡ false)
+Correct w i = CorrectOf w.n w.faulty i
 
 -- the laws of weighing sets of processes below n
 pub record Measure (n : ℕ) (weight : (ℕ → Bool) → ℕ) : Type 0 where

@@ -10,7 +10,7 @@ use Rattle.memory.specs.Places.{enough, within}
 use Rattle.protocol.specs.Phases.{kind}
 use Rattle.consensus.specs.Rounds.{Accepted}
 use Rattle.consensus.specs.Validity.{Valid}
-use Rattle.ballots.specs.Places.{body_at, ballots_at, covers, valid_at, ValidRow}
+use Rattle.ballots.specs.Places.{accepted_within, ballots_at, covers, valid_at, ValidRow}
 use Rattle.ballots.specs.Tallies.{cell, Holds, counts}
 use Rattle.ballots.specs.Votes.{after, beginning, sifted, votes, Exactly}
 use Rattle.ballots.specs.declared.tallies.ByBallot.{ByBallot}
@@ -18,9 +18,9 @@ use Rattle.ballots.proofs.Counts.{counts_past}
 use Rattle.ballots.proofs.Theorem.{exact}
 
 module _ (plan : Plan) (h : Held) (i c : ℕ) where
-  pub body_at_lem : (o r : ℕ) → 1 ≤ r → body_at plan h i (subject.Ballot o c r) ≡ ballots_at plan h i c o (r - 1)
+  pub accepted_within_lem : (o r : ℕ) → 1 ≤ r → accepted_within plan h i (subject.Ballot o c r) ≡ ballots_at plan h i c o (r - 1)
   unfolding ballots_at
-  body_at_lem o r l = let e : r ≡ suc (r - 1) = omega arith in ap (λ (q : ℕ). body_at plan h i (subject.Ballot o c q)) e
+  accepted_within_lem o r l = let e : r ≡ suc (r - 1) = omega arith in ap (λ (q : ℕ). accepted_within plan h i (subject.Ballot o c q)) e
 
   pub none_behind : (o r : ℕ) → plan.n ≤ o → ballots_at plan h i c o r ≡ None
   unfolding ballots_at

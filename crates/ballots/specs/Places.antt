@@ -4,20 +4,20 @@ use Rattle.protocol.specs.declared.votes.Ballot.{Ballot}
 use Rattle.protocol.specs.declared.messages.Subject.{Subject}
 use Rattle.protocol.specs.declared.messages.Subject.TheVariants as subject
 use Rattle.plan.specs.declared.plans.Plan.{Plan}
-use Rattle.memory.specs.Contents.{Held, stage_at, accepted_body}
-use Rattle.memory.specs.Places.{enough, within, place}
+use Rattle.memory.specs.Contents.{Held}
+use Rattle.memory.specs.Places.{enough, within, body_at}
 use Rattle.consensus.specs.Rounds.{Accepted}
 use Rattle.consensus.specs.Validity.{Valid}
 use Rattle.ballots.specs.Tallies.{cell}
 use Rattle.ballots.specs.Votes.{votes, Exactly}
 
--- what process i has accepted for a subject
-abbrev pub body_at : Plan → Held → ℕ → Subject → Option ℕ
-body_at plan h i s = cond (within plan s) (accepted_body (stage_at h (place plan i s))) None
+-- what process i has accepted for a subject, if the plan has the subject
+abbrev pub accepted_within : Plan → Held → ℕ → Subject → Option ℕ
+accepted_within plan h i s = cond (within plan s) (body_at plan h i s) None
 
 -- what process i has accepted in case c, by originator and round, the rounds from 0
 unfoldable pub ballots_at : Plan → Held → ℕ → ℕ → Accepted
-ballots_at plan h i c o r = body_at plan h i (subject.Ballot o c (suc r))
+ballots_at plan h i c o r = accepted_within plan h i (subject.Ballot o c (suc r))
 
 -- whether the plan has process i, case c and round r, this one from 1, and the memory is large enough
 abbrev pub covers : Plan → Held → ℕ → ℕ → ℕ → Bool

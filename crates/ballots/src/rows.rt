@@ -4,7 +4,7 @@ ghost use Rattle.protocol.specs.declared.messages.Subject.TheVariants as subject
 ghost use Rattle.memory.specs.Contents.{held};
 ghost use Rattle.ballots.specs.Tallies.{Holds};
 ghost use Rattle.ballots.specs.Votes.{sifted};
-ghost use Rattle.ballots.specs.Places.{body_at, ballots_at, covers, valid_at, ValidRow};
+ghost use Rattle.ballots.specs.Places.{accepted_within, ballots_at, covers, valid_at, ValidRow};
 
 use crate::allowing::{VOTES, allowed_after, sift};
 use crate::counting::count;
@@ -74,7 +74,7 @@ impl<'a, 'm> Accepted<'a, 'm> {
     }
 
     fn body(&self, originator: u64, round: u64) -> Option<u64>
-        ensures { result ≡ body_at self.now.plan.now (held self.now.memory.now) self.now.process (subject.Ballot originator self.now.case round) }
+        ensures { result ≡ accepted_within self.now.plan.now (held self.now.memory.now) self.now.process (subject.Ballot originator self.now.case round) }
     {
         let subject = Subject::Ballot {
             originator,

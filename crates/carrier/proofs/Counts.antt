@@ -5,9 +5,9 @@ use Rattle.std.proofs.lemmas.Bool.{eq-eqb, ne_eqb, cond-true}
 use Rattle.std.proofs.lemmas.List.Folds.{list_all_at}
 use Rattle.std.proofs.lemmas.List.FromFn.{get_or-range_with_len}
 use Rattle.protocol.specs.declared.messages.Message.{Message}
-use Rattle.protocol.specs.Bags.{count}
+use Rattle.protocol.specs.Bags.{count, addressed, waiting_for}
 use Rattle.protocol.proofs.Bags.{count_cons}
-use Rattle.carrier.specs.Waiting.{addressed, capped, waiting_for}
+use Rattle.carrier.specs.Waiting.{capped}
 
 pub counted : (p : Message → Bool) (m : Message) (ms : List Message) → p m ≡ true → count p (m ∷ ms) ≡ 1 + count p ms
 counted p m ms h = count_cons p m ms ∙ ap (λ (n : ℕ). n + count p ms) (cond-true (p m) 1 0 h)

@@ -1,20 +1,17 @@
 -- What waits in a carrier, and what posting and taking do to it. Assumes nothing.
-use Rattle.std.specs.Prelude.{◌≡◌, ℕ, ◌<◌, ◌≤◌, min, Bool, List, ◌∷◌, length, Ok, Err, Result, ◌==◌}
+use Rattle.std.specs.Prelude.{◌≡◌, ℕ, ◌-◌, ◌<◌, ◌≤◌, min, List, ◌∷◌, length, Ok, Err, Result}
 use Rattle.protocol.specs.declared.messages.Message.{Message}
 use Rattle.protocol.specs.declared.refusals.Refusal.{Refusal}
 use Rattle.protocol.specs.declared.refusals.Refusal.TheVariants.{NothingWaiting, NoRoom}
-use Rattle.protocol.specs.Bags.{count, Same}
+use Rattle.protocol.specs.Bags.{Same, waiting_for}
 
 -- numbers of messages are answered up to 2^32 - 1
 abbrev pub capped : ℕ → ℕ
 capped n = min n 4294967295
 
-abbrev pub addressed : ℕ → Message → Bool
-addressed process m = m.addressee == process
-
--- how many wait for a process
-abbrev pub waiting_for : ℕ → List Message → ℕ
-waiting_for process ms = count (addressed process) ms
+-- how many more there is room for
+abbrev pub free_in : ℕ → List Message → ℕ
+free_in capacity ms = capacity - length ms
 
 -- the message waits with the others
 pub record Added (m : Message) (capacity : ℕ) (before after : List Message) : Type 0 where

@@ -2,9 +2,10 @@
 // capacity alone.
 #![tactic(auto)]
 
-ghost use Rattle.std.specs.Prelude.{◌≡◌, ℕ, ◌-◌, ◌≤◌, true, List, [], length, IfOk, OnOk, ◌==◌};
+ghost use Rattle.std.specs.Prelude.{◌≡◌, ℕ, ◌≤◌, true, List, [], length, IfOk, OnOk, ◌==◌};
 ghost use Rattle.protocol.specs.declared.messages.Message.{Message};
-ghost use Rattle.carrier.specs.Waiting.{capped, waiting_for, Posted, Taken};
+ghost use Rattle.carrier.specs.Waiting.{capped, free_in, Posted, Taken};
+ghost use Rattle.protocol.specs.Bags.{waiting_for};
 
 use protocol::{Message, PROCESSES, Refusal};
 
@@ -26,7 +27,7 @@ pub trait Carrier {
 
     // How many more messages there is room for, at most 2^32 - 1.
     fn free(&self) -> u32
-        ensures { result ≡ capped (capacity self.now - length (waiting self.now)) };
+        ensures { result ≡ capped (free_in (capacity self.now) (waiting self.now)) };
 
     // How many messages wait for one process, at most 2^32 - 1.
     fn waiting_for(&self, process: u64) -> u32

@@ -1,7 +1,7 @@
 // Which of the messages for a process a carrier takes.
 ghost use Rattle.std.specs.Prelude.{◌≡◌, ℕ, ◌<◌, List};
 ghost use Rattle.protocol.specs.declared.messages.Message.{Message};
-ghost use Rattle.carrier.specs.Waiting.{waiting_for};
+ghost use Rattle.protocol.specs.Bags.{waiting_for};
 ghost use Rattle.row.specs.Order.{listed, newest, picked};
 ghost use Rattle.std.proofs.Common.{rules, mod-lt};
 

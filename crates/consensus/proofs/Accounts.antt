@@ -8,7 +8,8 @@ use Rattle.protocol.specs.Numbers.{ballot_number, vote}
 use Rattle.protocol.specs.declared.votes.Kind.TheVariants.{Third}
 use Rattle.protocol.specs.Phases.{kind}
 use Rattle.consensus.specs.Rounds.{Accepted, tally, Forces, Decides, Allows}
-use Rattle.consensus.specs.Validity.{Quorum, Justified, Part, Resilient, Correct}
+use Rattle.protocol.specs.Faults.{CorrectOf}
+use Rattle.consensus.specs.Validity.{Quorum, Justified, Part, Resilient}
 use Rattle.consensus.specs.Decisions.{Tossed}
 use Rattle.consensus.specs.Maps.{Decisions, Decided}
 use Rattle.consensus.specs.Accounts.{Left, Account, Outcomes}
@@ -21,7 +22,7 @@ unfolding tally
 empty_forces n t A r v f = omega (arith, (below_measure n).empty)
 
 module _ (n : ℕ) (faulty : ℕ → Bool) where
-  whether : (o : ℕ) → Correct n faulty o ⊎ (Correct n faulty o → ⊥)
+  whether : (o : ℕ) → CorrectOf n faulty o ⊎ (CorrectOf n faulty o → ⊥)
   whether o =
       ⊎_elim (λ (l : o < n). ⊎_elim (λ (e : faulty o ≡ true). inr (λ c. both_ways _ c.1 e)) (λ (e : faulty o ≡ false). inl (l, e)) (cases_Bool (faulty o))) (λ (l : n ≤ o). inr (λ c. omega (arith, c.0)))
       (cases_lt o n)
@@ -30,24 +31,24 @@ module _ (n t last : ℕ) (faulty : ℕ → Bool) (coin : ℕ → ℕ → Side) 
   all : Decisions n t faulty own
   all = decisions n t faulty own law account.alike
 
-  decides : (i q : ℕ) (u : Side) (ci : Correct n faulty i) (lt : suc q < rounds i) → decided i q u → Decided n t own i q (account.left i q ci lt).by u
+  decides : (i q : ℕ) (u : Side) (ci : CorrectOf n faulty i) (lt : suc q < rounds i) → decided i q u → Decided n t own i q (account.left i q ci lt).by u
   decides i q u ci lt e = let l = account.left i q ci lt in record { third = l.third u e; quorum = l.quorum; decides = l.decides u e }
 
-  agree : (i j q r : ℕ) (u v : Side) → Correct n faulty i → Correct n faulty j → suc q < rounds i → suc r < rounds j → decided i q u → decided j r v → u ≡ v
+  agree : (i j q r : ℕ) (u v : Side) → CorrectOf n faulty i → CorrectOf n faulty j → suc q < rounds i → suc r < rounds j → decided i q u → decided j r v → u ≡ v
   agree i j q r u v ci cj li lj e f = all.agreement i j q r _ _ u v ci cj (decides i q u ci li e) (decides j r v cj lj f)
 
-  valid : (v : Side) → ((o b : ℕ) → Correct n faulty o → said o 0 ≡ Some b → b ≡ ballot_number (vote v)) → (i q : ℕ) (u : Side) → Correct n faulty i → suc q < rounds i → decided i q u → u ≡ v
+  valid : (v : Side) → ((o b : ℕ) → CorrectOf n faulty o → said o 0 ≡ Some b → b ≡ ballot_number (vote v)) → (i q : ℕ) (u : Side) → CorrectOf n faulty i → suc q < rounds i → decided i q u → u ≡ v
   valid v votes i q u ci lt e =
       let d = decides i q u ci lt e in
       all.validity 0 q i _ u v refl (λ j o b cj co x. votes o b co (account.honest j o 0 b cj co x)) (third_late q d.third) ci d
 
-  module _ (r : ℕ) (c : Side) (third : kind r ≡ Third) (shared : (o : ℕ) → Correct n faulty o → coin o r ≡ c) (only : (o : ℕ) (v : Side) → Correct n faulty o → suc r < rounds o → forced o r v → v ≡ c) where
+  module _ (r : ℕ) (c : Side) (third : kind r ≡ Third) (shared : (o : ℕ) → CorrectOf n faulty o → coin o r ≡ c) (only : (o : ℕ) (v : Side) → CorrectOf n faulty o → suc r < rounds o → forced o r v → v ≡ c) where
     -- the set that process o went by; none if it has not left the round
     record Went (o : ℕ) (S : ℕ → Bool) : Type 0 where
       says : (b : ℕ) → said o (suc r) ≡ Some b → Tossed t (tally n (own o) r S) c b
       forces : (v : Side) → Forces t (tally n (own o) r S) v → v ≡ c
 
-    went : (o : ℕ) → Correct n faulty o → (S : ℕ → Bool) × Went o S
+    went : (o : ℕ) → CorrectOf n faulty o → (S : ℕ → Bool) × Went o S
     went o co = ⊎_elim gone here (cases_lt (suc r) (rounds o))
       where
         gone : suc r < rounds o → (S : ℕ → Bool) × Went o S
@@ -65,10 +66,10 @@ module _ (n t last : ℕ) (faulty : ℕ → Bool) (coin : ℕ → ℕ → Side) 
         here : rounds o ≤ suc r → (S : ℕ → Bool) × Went o S
         here le = ((λ _. false), record { says = λ b e. absurd (none_some _ b (account.unsaid o (suc r) co le) e); forces = λ v f. absurd (empty_forces n t (own o) r v f) })
 
-    used : (o : ℕ) → (S : ℕ → Bool) × (Correct n faulty o → Went o S)
+    used : (o : ℕ) → (S : ℕ → Bool) × (CorrectOf n faulty o → Went o S)
     used o = ⊎_elim (λ c. let x = went o c in (x.0, λ _. x.1)) (λ x. ((λ _. false), λ c. absurd (x c))) (whether n faulty o)
 
-    lucky : (j q : ℕ) → Correct n faulty j → kind q ≡ Third → suc r < q → suc q < rounds j → decided j q c
+    lucky : (j q : ℕ) → CorrectOf n faulty j → kind q ≡ Third → suc r < q → suc q < rounds j → decided j q c
     lucky j q cj e later lt =
         let l = account.left j q cj lt in
         let d = all.luck r q j l.by c (λ o. (used o).0) third (record {
@@ -78,15 +79,15 @@ module _ (n t last : ℕ) (faulty : ℕ → Bool) (coin : ℕ → ℕ → Side) 
         let x = l.decided_some e c d.decides in
         subst (decided j q) (all.agreement j j q q _ _ x.0 c cj cj (decides j q x.0 cj lt x.1) d) x.1
 
-  module _ (complete : (i k : ℕ) → Correct n faulty i → Correct n faulty k → Part (own k) (own i)) (delivered : (i k r b : ℕ) → Correct n faulty i → Correct n faulty k → r < last → said k r ≡ Some b → own i k r ≡ Some b) (stuck : (i r : ℕ) (S : ℕ → Bool) → Correct n faulty i → rounds i ≡ suc r → r < last → Quorum n t (own i) r S → ⊥) (opened : (i : ℕ) → Correct n faulty i → 0 < rounds i) where
-    held : (m : ℕ) → m < last → ((k : ℕ) → Correct n faulty k → m < rounds k) → (i : ℕ) → Correct n faulty i → rounds i ≤ suc m → ⊥
+  module _ (complete : (i k : ℕ) → CorrectOf n faulty i → CorrectOf n faulty k → Part (own k) (own i)) (delivered : (i k r b : ℕ) → CorrectOf n faulty i → CorrectOf n faulty k → r < last → said k r ≡ Some b → own i k r ≡ Some b) (stuck : (i r : ℕ) (S : ℕ → Bool) → CorrectOf n faulty i → rounds i ≡ suc r → r < last → Quorum n t (own i) r S → ⊥) (opened : (i : ℕ) → CorrectOf n faulty i → 0 < rounds i) where
+    held : (m : ℕ) → m < last → ((k : ℕ) → CorrectOf n faulty k → m < rounds k) → (i : ℕ) → CorrectOf n faulty i → rounds i ≤ suc m → ⊥
     held m lt before i ci l =
         let s = going n t faulty own law i m (λ k ck. complete i k ci ck) (λ k ck.
         let x = account.spoke k m ck (before k ck) lt in
         (x.0, x.2, delivered i k m x.0 ci ck lt x.1)) in
         stuck i m s.0 ci (omega (arith, before i ci)) lt s.1.quorum
 
-    past : (m : ℕ) → m ≤ last → (i : ℕ) → Correct n faulty i → m < rounds i
+    past : (m : ℕ) → m ≤ last → (i : ℕ) → CorrectOf n faulty i → m < rounds i
     past zero le i ci = opened i ci
     past (suc m) le i ci =
         ⊎_elim (λ (l : suc m < rounds i). l) (λ (l : rounds i ≤ suc m). absurd (held m (omega arith) (past m (omega arith)) i ci l)) (cases_lt (suc m) (rounds i))

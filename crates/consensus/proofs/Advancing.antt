@@ -12,7 +12,8 @@ use Rattle.protocol.specs.declared.votes.Kind.TheVariants.{First, Second, Third}
 use Rattle.protocol.specs.Phases.{kind}
 use Rattle.consensus.specs.Rounds.{Accepted, tally, Allows}
 use Rattle.agreement.proofs.Counts.{below_all, below_measure}
-use Rattle.consensus.specs.Validity.{Valid, lowest, Resilient, Correct}
+use Rattle.protocol.specs.Faults.{CorrectOf}
+use Rattle.consensus.specs.Validity.{Valid, lowest, Resilient}
 use Rattle.consensus.specs.Decisions.{Advances}
 use Rattle.consensus.proofs.Sides.{both_sides}
 
@@ -51,6 +52,6 @@ module _ (n t : ℕ) where
   correct_many faulty few =
       omega (arith, below_all n, (below_measure n).modular faulty (λ k. not (faulty k)), (below_measure n).monotone (λ _. true) (λ k. faulty k || not (faulty k)) (λ k l e. or-not_self (faulty k)))
 
-  pub enough : (faulty : ℕ → Bool) → Resilient n t faulty → (A : Accepted) (r : ℕ) → ((k : ℕ) → Correct n faulty k → (b : ℕ) × Valid n t A r k b) → (S : ℕ → Bool) × Advances n t A r S
+  pub enough : (faulty : ℕ → Bool) → Resilient n t faulty → (A : Accepted) (r : ℕ) → ((k : ℕ) → CorrectOf n faulty k → (b : ℕ) × Valid n t A r k b) → (S : ℕ → Bool) × Advances n t A r S
   enough faulty law A r valid =
       (lowest (n - t) (λ k. not (faulty k)), advances A r (λ k. not (faulty k)) (λ k l e. valid k (l, not-true _ e)) (correct_many faulty law.few))

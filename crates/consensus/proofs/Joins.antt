@@ -7,7 +7,8 @@ use Rattle.protocol.specs.Numbers.{proposal}
 use Rattle.protocol.specs.declared.votes.Kind.TheVariants.{Third}
 use Rattle.protocol.specs.Phases.{kind}
 use Rattle.consensus.specs.Rounds.{Accepted, tally}
-use Rattle.consensus.specs.Validity.{Quorum, Justified, Part, Resilient, Correct}
+use Rattle.protocol.specs.Faults.{CorrectOf}
+use Rattle.consensus.specs.Validity.{Quorum, Justified, Part, Resilient}
 use Rattle.consensus.specs.Decisions.{Kept, Settled, Unanimous, Advances}
 use Rattle.consensus.specs.Maps.{Alike, Joins, Decided, Votes, Lucky, Decisions}
 use Rattle.consensus.proofs.Tallies.{held}
@@ -41,7 +42,7 @@ module _ (faulty : ℕ → Bool) (own : ℕ → Accepted) where
   joined zero o r = None
   joined (suc m) o r = choose (faulty m) (own m o r) (joined m o r)
 
-  joined_some : (m i o r b : ℕ) → Correct m faulty i → own i o r ≡ Some b → (c : ℕ) × (joined m o r ≡ Some c)
+  joined_some : (m i o r b : ℕ) → CorrectOf m faulty i → own i o r ≡ Some b → (c : ℕ) × (joined m o r ≡ Some c)
   unfolding joined
   joined_some zero i o r b co e = absurd (omega (arith, co.0))
   joined_some (suc m) i o r b co e =
@@ -49,7 +50,7 @@ module _ (faulty : ℕ → Bool) (own : ℕ → Accepted) where
       let is : i ≡ m = omega (arith, co.0) in
       (b, chosen (faulty m) (own m o r) (joined m o r) b (subst (λ (k : ℕ). faulty k ≡ false) is co.1) (subst (λ (k : ℕ). own k o r ≡ Some b) is e))) (cases_lt i m)
 
-  joined_from : (m o r b : ℕ) → joined m o r ≡ Some b → (i : ℕ) × Correct m faulty i × (own i o r ≡ Some b)
+  joined_from : (m o r b : ℕ) → joined m o r ≡ Some b → (i : ℕ) × CorrectOf m faulty i × (own i o r ≡ Some b)
   unfolding joined
   joined_from zero o r b e = absurd (none_some None b refl e)
   joined_from (suc m) o r b e =
@@ -73,14 +74,14 @@ module _ (n : ℕ) (faulty : ℕ → Bool) (own : ℕ → Accepted) (alike : Ali
   join = (whole, joins)
 
 module _ (n t : ℕ) (faulty : ℕ → Bool) (own : ℕ → Accepted) (law : Resilient n t faulty) (G : Accepted) (join : Joins n faulty own G) where
-  kept : (i r : ℕ) → Correct n faulty i → Kept n t (own i) G r
+  kept : (i r : ℕ) → CorrectOf n faulty i → Kept n t (own i) G r
   kept i r ci = all_kept n t (own i) G (join.part i ci) r
 
   unanimous : (r : ℕ) (v : Side) → Votes n faulty own r v → Unanimous n t faulty G r v
   unanimous r v all o b co x = let k = join.from o r b (held n t G r o b x) in all k.0 o b k.1 co k.2
 
   -- by an own set, what is settled is decided, and nothing else
-  module _ (q i : ℕ) (S : ℕ → Bool) (v : Side) (ci : Correct n faulty i) (here : Settled n t G q v) where
+  module _ (q i : ℕ) (S : ℕ → Bool) (v : Side) (ci : CorrectOf n faulty i) (here : Settled n t G q v) where
     settled_own : kind q ≡ Third → Quorum n t (own i) q S → Decided n t own i q S v
     settled_own e full = record {
       third = e;
@@ -112,6 +113,6 @@ module _ (n t : ℕ) (faulty : ℕ → Bool) (own : ℕ → Accepted) (law : Res
 pub decisions : (n t : ℕ) (faulty : ℕ → Bool) (own : ℕ → Accepted) → Resilient n t faulty → Alike n faulty own → Decisions n t faulty own
 decisions n t faulty own law alike = own_decisions n t faulty own law (whole n faulty own alike) (joins n faulty own alike)
 
-pub going : (n t : ℕ) (faulty : ℕ → Bool) (own : ℕ → Accepted) → Resilient n t faulty → (i r : ℕ) → ((k : ℕ) → Correct n faulty k → Part (own k) (own i)) → ((k : ℕ) → Correct n faulty k → (b : ℕ) × Justified n t (own k) r b × (own i k r ≡ Some b)) → (S : ℕ → Bool) × Advances n t (own i) r S
+pub going : (n t : ℕ) (faulty : ℕ → Bool) (own : ℕ → Accepted) → Resilient n t faulty → (i r : ℕ) → ((k : ℕ) → CorrectOf n faulty k → Part (own k) (own i)) → ((k : ℕ) → CorrectOf n faulty k → (b : ℕ) × Justified n t (own k) r b × (own i k r ≡ Some b)) → (S : ℕ → Bool) × Advances n t (own i) r S
 going n t faulty own law i r part said =
     enough n t faulty law (own i) r (λ k ck. let h = said k ck in (h.0, (all_kept n t (own k) (own i) (part k ck) r).justified k h.0 h.1 h.2))

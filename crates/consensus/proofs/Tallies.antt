@@ -10,7 +10,8 @@ use Rattle.agreement.proofs.Bodies.{has_some, some_has, some_once}
 use Rattle.agreement.proofs.Counts.{below_measure}
 use Rattle.agreement.proofs.Weights.{find}
 use Rattle.consensus.specs.Rounds.{Accepted, tally}
-use Rattle.consensus.specs.Validity.{Valid, Quorum, Correct}
+use Rattle.protocol.specs.Faults.{CorrectOf}
+use Rattle.consensus.specs.Validity.{Valid, Quorum}
 
 some_below : (n : ℕ) (p : ℕ → Bool) → 0 < below n p → (k : ℕ) × (k < n) × (p k ≡ true)
 some_below n p h = ⊎_elim (λ x. x) (λ none. absurd (omega (arith, below_zero n p none))) (find n p)
@@ -66,7 +67,7 @@ module _ (n t : ℕ) (G : Accepted) where
           omega (arith, full.size)
 
       -- where every valid ballot of a correct process is b
-      module _ (faulty : ℕ → Bool) (b : Ballot) (all : (o c : ℕ) → Correct n faulty o → Valid n t G r o c → c ≡ ballot_number b) where
+      module _ (faulty : ℕ → Bool) (b : Ballot) (all : (o c : ℕ) → CorrectOf n faulty o → Valid n t G r o c → c ≡ ballot_number b) where
         pub tally_correct : n - t ≤ below n faulty + tally n G r S b
         unfolding tally
         tally_correct =

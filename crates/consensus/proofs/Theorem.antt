@@ -8,7 +8,8 @@ use Rattle.protocol.specs.declared.votes.Kind.{Kind}
 use Rattle.protocol.specs.declared.votes.Kind.TheVariants.{First, Third}
 use Rattle.protocol.specs.Phases.{kind}
 use Rattle.consensus.specs.Rounds.{Accepted, tally, Forces, Decides, ballot_for}
-use Rattle.consensus.specs.Validity.{Valid, Quorum, Part, Resilient, Correct}
+use Rattle.protocol.specs.Faults.{CorrectOf}
+use Rattle.consensus.specs.Validity.{Valid, Quorum, Part, Resilient}
 use Rattle.consensus.specs.Decisions.{Locked, Settled, Unanimous, Tossed}
 use Rattle.consensus.proofs.Sides.{other, vote_side, not_other, after, kind_after, third_late}
 use Rattle.consensus.proofs.Tallies.{tally_correct, tally_faulty, tally_met}
@@ -64,7 +65,7 @@ module _ (n t : ℕ) (G : Accepted) where
         let x = all_kept n t A G part r in
         (settled 0 v refl all r (third_late r e)).alone e S u (x.quorums S full) (omega (arith, x.tallies S full (proposal u)))
 
-    pub lucky : (r : ℕ) (c : Side) (counts : ℕ → Ballot → ℕ) → kind r ≡ Third → ((o b : ℕ) → Correct n faulty o → Valid n t G (suc r) o b → Tossed t (counts o) c b) → ((o : ℕ) (v : Side) → Correct n faulty o → Forces t (counts o) v → v ≡ c) → (q : ℕ) → suc r < q → Settled n t G q c
+    pub lucky : (r : ℕ) (c : Side) (counts : ℕ → Ballot → ℕ) → kind r ≡ Third → ((o b : ℕ) → CorrectOf n faulty o → Valid n t G (suc r) o b → Tossed t (counts o) c b) → ((o : ℕ) (v : Side) → CorrectOf n faulty o → Forces t (counts o) v → v ≡ c) → (q : ℕ) → suc r < q → Settled n t G q c
     lucky r c counts e tossed same q l = settled (suc r) c (kind_after r ∙ ap after e) unanimous q l
       where
         unanimous : Unanimous n t faulty G (suc r) c

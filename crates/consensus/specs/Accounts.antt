@@ -5,7 +5,8 @@ use Rattle.protocol.specs.Numbers.{ballot_number, vote}
 use Rattle.protocol.specs.declared.votes.Kind.TheVariants.{Third}
 use Rattle.protocol.specs.Phases.{kind}
 use Rattle.consensus.specs.Rounds.{Accepted, tally, Forces, Decides}
-use Rattle.consensus.specs.Validity.{Quorum, Justified, Part, Correct}
+use Rattle.protocol.specs.Faults.{CorrectOf}
+use Rattle.consensus.specs.Validity.{Quorum, Justified, Part}
 use Rattle.consensus.specs.Decisions.{Tossed}
 use Rattle.consensus.specs.Maps.{Alike}
 
@@ -25,17 +26,17 @@ pub record Left (n t : ℕ) (A : Accepted) (coin : Side) (q : ℕ) (next : Optio
 -- would toss in round r, and forced o r and decided o r are told of it.
 pub record Account (n t last : ℕ) (faulty : ℕ → Bool) (coin : ℕ → ℕ → Side) (own : ℕ → Accepted) (said : ℕ → ℕ → Option ℕ) (rounds : ℕ → ℕ) (forced decided : ℕ → ℕ → Side → Type 0) : Type 0 where
   pub alike : Alike n faulty own
-  pub honest : (i o r b : ℕ) → Correct n faulty i → Correct n faulty o → own i o r ≡ Some b → said o r ≡ Some b
-  pub spoke : (o r : ℕ) → Correct n faulty o → r < rounds o → r < last → (b : ℕ) × (said o r ≡ Some b) × Justified n t (own o) r b
-  pub unsaid : (o r : ℕ) → Correct n faulty o → rounds o ≤ r → said o r ≡ None
-  pub left : (o r : ℕ) → Correct n faulty o → suc r < rounds o → Left n t (own o) (coin o r) r (said o (suc r)) (forced o r) (decided o r)
+  pub honest : (i o r b : ℕ) → CorrectOf n faulty i → CorrectOf n faulty o → own i o r ≡ Some b → said o r ≡ Some b
+  pub spoke : (o r : ℕ) → CorrectOf n faulty o → r < rounds o → r < last → (b : ℕ) × (said o r ≡ Some b) × Justified n t (own o) r b
+  pub unsaid : (o r : ℕ) → CorrectOf n faulty o → rounds o ≤ r → said o r ≡ None
+  pub left : (o r : ℕ) → CorrectOf n faulty o → suc r < rounds o → Left n t (own o) (coin o r) r (said o (suc r)) (forced o r) (decided o r)
 
 pub record Outcomes (n t last : ℕ) (faulty : ℕ → Bool) (coin : ℕ → ℕ → Side) (own : ℕ → Accepted) (said : ℕ → ℕ → Option ℕ) (rounds : ℕ → ℕ) (forced decided : ℕ → ℕ → Side → Type 0) : Type 0 where
-  -- Correct processes decide one side.
-  pub agreement : (i j q r : ℕ) (u v : Side) → Correct n faulty i → Correct n faulty j → suc q < rounds i → suc r < rounds j → decided i q u → decided j r v → u ≡ v
+  -- CorrectOf processes decide one side.
+  pub agreement : (i j q r : ℕ) (u v : Side) → CorrectOf n faulty i → CorrectOf n faulty j → suc q < rounds i → suc r < rounds j → decided i q u → decided j r v → u ≡ v
   -- If all of them voted for v, it is v.
-  pub validity : (v : Side) → ((o b : ℕ) → Correct n faulty o → said o 0 ≡ Some b → b ≡ ballot_number (vote v)) → (i q : ℕ) (u : Side) → Correct n faulty i → suc q < rounds i → decided i q u → u ≡ v
+  pub validity : (v : Side) → ((o b : ℕ) → CorrectOf n faulty o → said o 0 ≡ Some b → b ≡ ballot_number (vote v)) → (i q : ℕ) (u : Side) → CorrectOf n faulty i → suc q < rounds i → decided i q u → u ≡ v
   -- If round r forced them to no side but c, which the coin shows each of them, they decide c in every later third round.
-  pub luck : (r : ℕ) (c : Side) → kind r ≡ Third → ((o : ℕ) → Correct n faulty o → coin o r ≡ c) → ((o : ℕ) (v : Side) → Correct n faulty o → suc r < rounds o → forced o r v → v ≡ c) → (j q : ℕ) → Correct n faulty j → kind q ≡ Third → suc r < q → suc q < rounds j → decided j q c
+  pub luck : (r : ℕ) (c : Side) → kind r ≡ Third → ((o : ℕ) → CorrectOf n faulty o → coin o r ≡ c) → ((o : ℕ) (v : Side) → CorrectOf n faulty o → suc r < rounds o → forced o r v → v ≡ c) → (j q : ℕ) → CorrectOf n faulty j → kind q ≡ Third → suc r < q → suc q < rounds j → decided j q c
   -- If each of them has all that the others accepted and said, and none can leave its round, and all have begun, then all are past the last round.
-  pub ending : ((i k : ℕ) → Correct n faulty i → Correct n faulty k → Part (own k) (own i)) → ((i k r b : ℕ) → Correct n faulty i → Correct n faulty k → r < last → said k r ≡ Some b → own i k r ≡ Some b) → ((i r : ℕ) (S : ℕ → Bool) → Correct n faulty i → rounds i ≡ suc r → r < last → Quorum n t (own i) r S → ⊥) → ((i : ℕ) → Correct n faulty i → 0 < rounds i) → (i : ℕ) → Correct n faulty i → last < rounds i
+  pub ending : ((i k : ℕ) → CorrectOf n faulty i → CorrectOf n faulty k → Part (own k) (own i)) → ((i k r b : ℕ) → CorrectOf n faulty i → CorrectOf n faulty k → r < last → said k r ≡ Some b → own i k r ≡ Some b) → ((i r : ℕ) (S : ℕ → Bool) → CorrectOf n faulty i → rounds i ≡ suc r → r < last → Quorum n t (own i) r S → ⊥) → ((i : ℕ) → CorrectOf n faulty i → 0 < rounds i) → (i : ℕ) → CorrectOf n faulty i → last < rounds i

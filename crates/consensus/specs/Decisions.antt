@@ -7,7 +7,8 @@ use Rattle.protocol.specs.Numbers.{ballot_number, vote, proposal}
 use Rattle.protocol.specs.declared.votes.Kind.TheVariants.{First, Third}
 use Rattle.protocol.specs.Phases.{kind}
 use Rattle.consensus.specs.Rounds.{Accepted, tally, Forces, Decides, Allows, ballot_for}
-use Rattle.consensus.specs.Validity.{Valid, Quorum, Justified, lowest, Part, Resilient, Correct}
+use Rattle.protocol.specs.Faults.{CorrectOf}
+use Rattle.consensus.specs.Validity.{Valid, Quorum, Justified, lowest, Part, Resilient}
 
 -- What is valid in a part is valid in the whole, and a set says there what it says here.
 pub record Kept (n t : ℕ) (A G : Accepted) (r : ℕ) : Type 0 where
@@ -45,7 +46,7 @@ pub record Settled (n t : ℕ) (G : Accepted) (r : ℕ) (v : Side) : Type 0 wher
 
 -- correct processes have valid ballots of round r for v only; nothing is asked of the faulty ones
 abbrev pub Unanimous : ℕ → ℕ → (ℕ → Bool) → Accepted → ℕ → Side → Type 0
-Unanimous n t faulty G r v = (o b : ℕ) → Correct n faulty o → Valid n t G r o b → b ≡ ballot_number (vote v)
+Unanimous n t faulty G r v = (o b : ℕ) → CorrectOf n faulty o → Valid n t G r o b → b ≡ ballot_number (vote v)
 
 -- A first round in which correct processes are unanimous settles all later rounds.
 abbrev pub Settling : Type 0
@@ -67,7 +68,7 @@ Tossed t count c b =
 
 -- If the sets that correct processes went by force no side but the coin's, all later rounds are settled.
 abbrev pub Luck : Type 0
-Luck = (n t : ℕ) (faulty : ℕ → Bool) → Resilient n t faulty → (G : Accepted) (r : ℕ) (c : Side) (counts : ℕ → Ballot → ℕ) → kind r ≡ Third → ((o b : ℕ) → Correct n faulty o → Valid n t G (suc r) o b → Tossed t (counts o) c b) → ((o : ℕ) (v : Side) → Correct n faulty o → Forces t (counts o) v → v ≡ c) → (q : ℕ) → suc r < q → Settled n t G q c
+Luck = (n t : ℕ) (faulty : ℕ → Bool) → Resilient n t faulty → (G : Accepted) (r : ℕ) (c : Side) (counts : ℕ → Ballot → ℕ) → kind r ≡ Third → ((o b : ℕ) → CorrectOf n faulty o → Valid n t G (suc r) o b → Tossed t (counts o) c b) → ((o : ℕ) (v : Side) → CorrectOf n faulty o → Forces t (counts o) v → v ≡ c) → (q : ℕ) → suc r < q → Settled n t G q c
 
 -- S is a full set and allows some ballot
 pub record Advances (n t : ℕ) (A : Accepted) (r : ℕ) (S : ℕ → Bool) : Type 0 where
@@ -80,7 +81,7 @@ Lowest = (n t : ℕ) (A : Accepted) (r : ℕ) (p : ℕ → Bool) → ((k : ℕ) 
 
 -- The valid ballots of correct processes are enough.
 abbrev pub Enough : Type 0
-Enough = (n t : ℕ) (faulty : ℕ → Bool) → Resilient n t faulty → (A : Accepted) (r : ℕ) → ((k : ℕ) → Correct n faulty k → (b : ℕ) × Valid n t A r k b) → (S : ℕ → Bool) × Advances n t A r S
+Enough = (n t : ℕ) (faulty : ℕ → Bool) → Resilient n t faulty → (A : Accepted) (r : ℕ) → ((k : ℕ) → CorrectOf n faulty k → (b : ℕ) × Valid n t A r k b) → (S : ℕ → Bool) × Advances n t A r S
 
 -- four processes, of which the last is faulty and silent, and a set of their third round that decides v
 pub record Happens (v : Side) (G : Accepted) (S : ℕ → Bool) : Type 0 where

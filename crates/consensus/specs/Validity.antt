@@ -39,6 +39,3 @@ Part A G = (o r b : ℕ) → A o r ≡ Some b → G o r ≡ Some b
 pub record Resilient (n t : ℕ) (faulty : ℕ → Bool) : Type 0 where
   pub few : below n faulty ≤ t
   pub third : 3 * t < n
-
-abbrev pub Correct : ℕ → (ℕ → Bool) → ℕ → Type 0
-Correct n faulty o = (o < n) × (faulty o ≡ false)

@@ -9,8 +9,8 @@ use Rattle.memory.specs.Contents.{Held, held, with_serial, case_at}
 use Rattle.memory.specs.Places.{case_place}
 use Rattle.row.specs.Order.{TookAt, left_at, picked}
 use Rattle.cases.specs.declared.steps.Step.{Step}
-use Rattle.rules.specs.Turns.{Turn, refusal, initials, moved, said, settled, ballots, reacted, replies}
-use Rattle.rules.specs.Runs.{Event, refused, announced, opened, forged, delivered, advanced, Coin, turn_of, Happens}
+use Rattle.rules.specs.Turns.{Turn, refusal, initials, moved, said, decision_after, ballots, reacted, replies, Coin}
+use Rattle.rules.specs.Runs.{Event, refused, announced, opened, forged, delivered, advanced, turn_of, Happens}
 use Rattle.runs.specs.Performed.{answer_of, asked, Carried, Performed}
 use Rattle.runs.specs.declared.turns.Turn as runs
 use Rattle.runs.specs.declared.turns.Answer.{Answer}
@@ -83,10 +83,10 @@ module _ {C : Type 0} (listing : C → List Message) where
         let before = (case_at h (case_place line.plan i c)).decision in
         let same : carried.0 ≡ s = some_step (sym carried.1 ∙ a.by) in
         let waits = posted x carried.2 ∙ ap (λ (t : Step). ws ++ sent r t) same in
-        let memory = a.done.memory ∙ ap (λ (o : Option Side). moved line i c (r + 1) (settled before o (r / 3)) h) a.decision in
+        let memory = a.done.memory ∙ ap (λ (o : Option Side). moved line i c (r + 1) (decision_after before o (r / 3)) h) a.decision in
         allowed (turn_of (advanced i c r forced decides reached n)) a.done.allowed
         ∙ ap (advancing line coin h ws i c) a.by
-        ∙ ap (λ (z : ℕ). acted (Ok (Advanced (record { round = z + 1; posted = length (sent z s) }))) (moved line i c (z + 1) (settled before s.decides (z / 3)) h) (ws ++ sent z s)) (sym a.from)
+        ∙ ap (λ (z : ℕ). acted (Ok (Advanced (record { round = z + 1; posted = length (sent z s) }))) (moved line i c (z + 1) (decision_after before s.decides (z / 3)) h) (ws ++ sent z s)) (sym a.from)
         ∙ alike (λ j. Ok (Advanced (record { round = sym a.answer j; posted = sym a.done.counted j }))) (sym memory) (sym waits)
 
     -- a turn that was performed

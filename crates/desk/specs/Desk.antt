@@ -18,8 +18,7 @@ use Rattle.memory.specs.Contents.{Held, held, cleared}
 use Rattle.row.specs.Order.{listed, room}
 use Rattle.carriers.specs.Kinds.{Basket}
 use Rattle.line.specs.Opening.{open_refusal}
-use Rattle.rules.specs.Turns.{Turn, Announce, Open, Forge, Deliver, Advance}
-use Rattle.rules.specs.Runs.{Coin}
+use Rattle.rules.specs.Turns.{Turn, Announce, Open, Forge, Deliver, Advance, Coin}
 use Rattle.runs.specs.Performed.{asked}
 use Rattle.runs.specs.declared.turns.Answer.{Answer}
 use Rattle.runs.specs.declared.turns.Turn as runs

@@ -7,8 +7,7 @@ use Rattle.protocol.specs.declared.refusals.Refusal.TheVariants.{MemoryTooSmall,
 use Rattle.plan.specs.Kinds.{Line}
 use Rattle.memory.specs.Contents.{Held}
 use Rattle.memory.specs.Places.{enough, within}
-use Rattle.rules.specs.Turns.{Forge, faulty, unless, refusal}
-use Rattle.line.specs.Checks.{process_tests}
+use Rattle.rules.specs.Turns.{Forge, faulty, unless, refusal, process_tests}
 
 module _ (line : Line) (capacity : ℕ) (h : Held) (ws : List Message) where
   -- the two ends of a message, tested one after the other

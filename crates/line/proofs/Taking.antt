@@ -1,21 +1,20 @@
 -- What a delivery does, from what its parts do. Assumes nothing.
 use Rattle.std.proofs.Common.{◌≡◌, ℕ, ◌+◌, ◌-◌, ◌*◌, ◌≤◌, true, false, ◌||◌, leb, List, ◌∷◌, ◌++◌, length, sym, ap, ◌∙◌, subst, ⊎_elim, arith}
 use Rattle.std.proofs.lemmas.Bool.{both_ways, cond-true, cond-false, eq-eqb, leb-true, le-leb, or_cases}
-use Rattle.protocol.specs.Bags.{Same}
+use Rattle.protocol.specs.Bags.{Same, addressed, waiting_for}
 use Rattle.protocol.specs.declared.messages.Message.{Message}
 use Rattle.protocol.proofs.Bags.{same_length}
 use Rattle.plan.specs.Kinds.{Line}
 use Rattle.plan.specs.declared.plans.Plan.{Plan}
 use Rattle.carrier.specs.Posting.{Posts}
-use Rattle.carrier.specs.Waiting.{addressed, waiting_for, Removed}
+use Rattle.carrier.specs.Waiting.{Removed}
 use Rattle.carrier.proofs.Counts.{counted}
 use Rattle.memory.specs.Contents.{Held}
 use Rattle.broadcast.specs.Receiving.{Outcome, outcome, received}
 use Rattle.broadcast.specs.Stages.{nothing}
-use Rattle.rules.specs.Turns.{faulty, reacted, replies}
+use Rattle.rules.specs.Turns.{faulty, reacted, replies, process_tests}
 use Rattle.rules.specs.Answers.{Took}
 use Rattle.rules.specs.declared.answers.Delivered.{Delivered}
-use Rattle.line.specs.Checks.{process_tests}
 use Rattle.line.specs.Sent.{Sent}
 
 module _ {i : ℕ} {m : Message} {ws rest : List Message} (removed : Removed m i ws rest) where

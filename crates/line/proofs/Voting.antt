@@ -17,8 +17,8 @@ use Rattle.memory.specs.Contents.{Held}
 use Rattle.memory.specs.Places.{case_place, case_place_of}
 use Rattle.cases.specs.Steps.{round_at, may_advance, step_at}
 use Rattle.cases.specs.declared.steps.Step.{Step}
-use Rattle.rules.specs.Turns.{Advance, refusal, ballots}
-use Rattle.line.specs.Checks.{correct_tests, spacious}
+use Rattle.rules.specs.Turns.{Advance, refusal, ballots, correct_tests}
+use Rattle.line.specs.Checks.{spacious}
 use Rattle.line.specs.Sent.{subject_after, sent_for}
 
 -- what the place of a case record says of the case

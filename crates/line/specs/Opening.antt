@@ -7,8 +7,8 @@ use Rattle.plan.specs.declared.plans.Plan.{Plan}
 use Rattle.plan.specs.Kinds.{Draft, Line}
 use Rattle.memory.specs.Contents.{Held, cleared}
 use Rattle.memory.specs.Places.{enough}
-use Rattle.rules.specs.Turns.{unless}
-use Rattle.rules.specs.Runs.{Coin, Run}
+use Rattle.rules.specs.Turns.{unless, Coin}
+use Rattle.rules.specs.Runs.{Run}
 use Rattle.rules.specs.Promises.{Kept}
 
 -- why opening is refused, if it is

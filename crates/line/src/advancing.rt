@@ -3,7 +3,7 @@ ghost use Rattle.std.specs.Prelude.{◌≡◌, ◌+◌, ◌<◌, true, length, I
 ghost use Rattle.protocol.specs.Messages.{originator_of};
 ghost use Rattle.memory.specs.Contents.{held};
 ghost use Rattle.rules.specs.Answers.{Advancement};
-ghost use Rattle.rules.specs.Turns.{said, settled};
+ghost use Rattle.rules.specs.Turns.{said, decision_after};
 ghost use Rattle.line.specs.Checks.{spacious, Spacious};
 ghost use Rattle.line.specs.Sent.{Sent, subject_after, sent_for};
 
@@ -78,7 +78,7 @@ fn check_room_for_next<C: Carrier>(
 fn moved(record: CaseRecord, decides: Option<Side>, phase: u8) -> CaseRecord
     requires { «record».round < 255 }
     ensures round { result.round ≡ «record».round + 1 }
-    ensures decision { result.decision ≡ settled «record».decision decides phase }
+    ensures decision { result.decision ≡ decision_after «record».decision decides phase }
     ensures slip { result.slip ≡ «record».slip }
 {
     let decided = decides.map(|side| Decision { side, phase });

@@ -1,10 +1,8 @@
 // Opening a case.
 ghost use Rattle.std.specs.Prelude.{◌≡◌, OnOk};
-ghost use Rattle.protocol.specs.Sending.{to_all};
-ghost use Rattle.protocol.specs.declared.messages.Step.TheVariants.{Initial};
-ghost use Rattle.protocol.specs.declared.messages.Subject.TheVariants.{Ballot as BallotOf};
 ghost use Rattle.carrier.specs.Posting.{Posts};
 ghost use Rattle.memory.specs.Contents.{held};
+ghost use Rattle.rules.specs.Turns.{first_ballots};
 ghost use Rattle.rules.specs.Answers.{CaseOpening};
 
 use crate::checks::{check_correct, check_room_for_all, find_case};
@@ -26,7 +24,7 @@ pub fn open_case<C: Carrier>(
 ) -> Result<u64, Refusal>
     ensures turn { CaseOpening line.now (C.Carrier.capacity carrier.old) (held memory.old) (C.Carrier.waiting carrier.old) process case vote result (held memory.new) (C.Carrier.waiting carrier.new) }
     ensures kept { C.Carrier.capacity carrier.new ≡ C.Carrier.capacity carrier.old }
-    ensures order { OnOk result (Posts C.Carrier.posting carrier.old (to_all line.now.plan.n process Initial (BallotOf process case 1) vote) carrier.new) }
+    ensures order { OnOk result (Posts C.Carrier.posting carrier.old (first_ballots line.now process case vote) carrier.new) }
 {
     check_correct(line, memory, process)?;
     let at = find_case(line, process, case)?;

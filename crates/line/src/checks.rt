@@ -4,7 +4,8 @@ ghost use Rattle.protocol.specs.declared.refusals.Refusal.TheVariants.{SubjectOu
 ghost use Rattle.memory.specs.Contents.{held};
 ghost use Rattle.memory.specs.Places.{case_place_of};
 ghost use Rattle.rules.specs.Promises.{Correct};
-ghost use Rattle.line.specs.Checks.{Answers, process_tests, correct_tests, RoomForAll};
+ghost use Rattle.rules.specs.Turns.{process_tests, correct_tests};
+ghost use Rattle.line.specs.Checks.{Answers, RoomForAll};
 
 use carrier::Carrier;
 use memory::{Memory, case_place};

@@ -6,7 +6,7 @@ use Rattle.protocol.specs.declared.messages.Subject.TheVariants.{Item, Ballot}
 use Rattle.plan.specs.declared.plans.Plan.{Plan}
 use Rattle.plan.specs.Plans.{needs_of}
 use Rattle.memory.specs.declared.places.Place.{Place}
-use Rattle.memory.specs.Contents.{Held}
+use Rattle.memory.specs.Contents.{Held, stage_at, accepted_body}
 
 -- whether each part has the places that the plan needs
 abbrev pub enough : Plan → Held → Bool
@@ -32,6 +32,10 @@ number plan (Ballot i c r) = plan.serials + 3 * plan.phases * c + (r - 1)
 -- the broadcast record that process i keeps of a subject
 abbrev pub place : Plan → ℕ → Subject → ℕ
 place plan i subject = (i * plan.n + originator_of subject) * subjects plan + number plan subject
+
+-- the body that the record of process i has as accepted for a subject
+abbrev pub body_at : Plan → Held → ℕ → Subject → Option ℕ
+body_at plan h i s = accepted_body (stage_at h (place plan i s))
 
 -- the first echo and the first ready that record k has heard; the sender's number is added
 abbrev pub echoes : Plan → ℕ → ℕ

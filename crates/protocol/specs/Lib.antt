@@ -1,5 +1,6 @@
 pub mod Bags
 pub mod Counting
+pub mod Faults
 pub mod Heard
 pub mod Messages
 pub mod Numbers

@@ -1,4 +1,4 @@
--- The numbers of sides and ballots. Assumes nothing.
+-- Ballots and their numbers. Assumes nothing.
 use Rattle.std.specs.Prelude.{◌≡◌, ℕ, cond, Some, None, Option, Result, ok_or, ◌==◌}
 use Rattle.protocol.specs.declared.refusals.Refusal.{Refusal}
 use Rattle.protocol.specs.declared.refusals.Refusal.TheVariants.{ValueOutOfRange}
@@ -6,10 +6,6 @@ use Rattle.protocol.specs.declared.votes.Side.{Side}
 use Rattle.protocol.specs.declared.votes.Side.TheVariants as side
 use Rattle.protocol.specs.declared.votes.Ballot.{Ballot}
 use Rattle.protocol.specs.declared.votes.Ballot.TheVariants.{Keep, Release, ProposeKeep, ProposeRelease, Open}
-
-abbrev pub side_number : Side → ℕ
-side_number side.Keep = 0
-side_number side.Release = 1
 
 abbrev pub ballot_number : Ballot → ℕ
 ballot_number Keep = 0

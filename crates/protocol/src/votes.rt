@@ -1,7 +1,7 @@
 // The sides of a case, the ballots that are cast on it, and the rounds that they are cast in.
 ghost use Rattle.std.specs.Prelude.{◌≡◌};
 ghost use Rattle.protocol.specs.Phases.{kind};
-ghost use Rattle.protocol.specs.Numbers.{side_number, ballot_number, Turns, vote, proposal};
+ghost use Rattle.protocol.specs.Numbers.{ballot_number, Turns, vote, proposal};
 
 use crate::refusals::Refusal;
 
@@ -30,16 +30,8 @@ pub enum Kind {
     Third,
 }
 
-impl Side {
-    // A method for each number here: it is read by its name, and a `From` would say the same.
-    pub fn number(self) -> u64
-        ensures { result ≡ side_number self }
-    {
-        self as u64
-    }
-}
-
 impl Ballot {
+    // A method for each number here: it is read by its name, and a `From` would say the same.
     pub fn number(self) -> u64
         ensures { result ≡ ballot_number self }
     {

@@ -1,25 +1,21 @@
 -- What reading answers, and what that has to do with runs. Assumes nothing.
-use Rattle.std.specs.Prelude.{◌≡◌, ℕ, not, List, Some, None, Ok, Err, Option, Result, nat_lt}
+use Rattle.std.specs.Prelude.{◌≡◌, ℕ, List, Some, None, Ok, Err, Option, Result}
 use Rattle.protocol.specs.declared.messages.Message.{Message}
 use Rattle.protocol.specs.declared.messages.Subject.{Subject}
 use Rattle.protocol.specs.declared.refusals.Refusal.{Refusal}
-use Rattle.protocol.specs.declared.refusals.Refusal.TheVariants.{MemoryTooSmall, ProcessOutOfRange, WrongRole, SubjectOutOfPlan}
+use Rattle.protocol.specs.declared.refusals.Refusal.TheVariants.{SubjectOutOfPlan}
 use Rattle.plan.specs.Kinds.{Line}
 use Rattle.memory.specs.Contents.{Held}
-use Rattle.memory.specs.Places.{enough, within, place}
-use Rattle.rules.specs.Turns.{faulty, unless}
-use Rattle.rules.specs.Runs.{Event, Coin, Run, Accepted}
-use Rattle.rules.specs.Promises.{Correct, body_at}
+use Rattle.memory.specs.Places.{within, place, body_at}
+use Rattle.rules.specs.Turns.{Coin, unless, correct_tests}
+use Rattle.rules.specs.Runs.{Event, Run, Accepted}
+use Rattle.rules.specs.Promises.{Correct}
 use Rattle.reading.specs.declared.readings.Reading.{Reading}
 use Rattle.reading.specs.declared.readings.Reading.TheVariants.{Nothing, Unreadable, Value}
 
 -- why reading is refused, if it is
 abbrev pub refusal : Line → Held → ℕ → Subject → Option Refusal
-refusal line h i s =
-    unless (enough line.plan h) MemoryTooSmall
-    (unless (nat_lt i line.plan.n) ProcessOutOfRange
-    (unless (not (faulty line i)) WrongRole
-    (unless (within line.plan s) SubjectOutOfPlan None)))
+refusal line h i s = correct_tests line h i (unless (within line.plan s) SubjectOutOfPlan None)
 
 -- a place was found, or reading is refused
 abbrev pub Located : Line → Held → ℕ → Subject → Result ℕ Refusal → Type 0
@@ -41,7 +37,7 @@ unless_refused None x = Ok x
 unless_refused (Some e) x = Err e
 
 abbrev pub answer : {V : Type 0} → (ℕ → Option V) → Line → Held → ℕ → Subject → Result (Reading V) Refusal
-answer unpacked line h i s = unless_refused (refusal line h i s) (reading_of unpacked (body_at line h i s))
+answer unpacked line h i s = unless_refused (refusal line h i s) (reading_of unpacked (body_at line.plan h i s))
 
 -- Where a run leads to this memory, and tells that the correct process i accepted body b for the subject, this body is read.
 abbrev pub Alike : {V : Type 0} → (ℕ → Option V) → Line → Held → ℕ → Subject → Result (Reading V) Refusal → Type 0

@@ -7,9 +7,9 @@ use Rattle.std.proofs.lemmas.Bool.{eqb-true, cases_lt}
 use Rattle.protocol.specs.declared.messages.Message.{Message}
 use Rattle.protocol.specs.declared.refusals.Refusal.{Refusal}
 use Rattle.protocol.specs.declared.refusals.Refusal.TheVariants.{NothingWaiting}
-use Rattle.protocol.specs.Bags.{count, Same}
+use Rattle.protocol.specs.Bags.{count, Same, addressed, waiting_for}
 use Rattle.protocol.proofs.Bags.{count_cons}
-use Rattle.carrier.specs.Waiting.{addressed, waiting_for, Taken}
+use Rattle.carrier.specs.Waiting.{Taken}
 use Rattle.row.specs.Order.{place, standing, answer_at, left_at}
 use Rattle.row.proofs.Places.{removed_past}
 

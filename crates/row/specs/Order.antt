@@ -6,7 +6,7 @@ use Rattle.std.specs.Option.{option_map, ok_or}
 use Rattle.protocol.specs.declared.messages.Message.{Message}
 use Rattle.protocol.specs.declared.refusals.Refusal.{Refusal}
 use Rattle.protocol.specs.declared.refusals.Refusal.TheVariants.{NothingWaiting}
-use Rattle.carrier.specs.Waiting.{addressed, waiting_for}
+use Rattle.protocol.specs.Bags.{addressed, waiting_for}
 use Rattle.row.specs.declared.rows.Row.{Row}
 
 -- what waits, in order of posting

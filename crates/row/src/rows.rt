@@ -1,7 +1,8 @@
 // Messages over lent memory, in order of posting.
 ghost use Rattle.std.specs.Prelude.{◌≡◌, ◌-◌, ◌<◌, ◌≤◌, Some, [], length};
 ghost use Rattle.std.specs.List.{remove, slice_get};
-ghost use Rattle.carrier.specs.Waiting.{capped, waiting_for, Posted};
+ghost use Rattle.carrier.specs.Waiting.{capped, Posted};
+ghost use Rattle.protocol.specs.Bags.{waiting_for};
 
 use protocol::{Message, Refusal};
 

@@ -24,14 +24,14 @@ use Rattle.agreement.proofs.Waiting.{subject_same}
 use Rattle.ballots.proofs.Reading.{Covered, covered, ballot_within}
 use Rattle.cases.specs.Steps.{round_at, chosen, Law}
 use Rattle.cases.proofs.Going.{law}
-use Rattle.rules.specs.Turns.{said, settled, moved}
-use Rattle.rules.specs.Runs.{Event, opened, advanced, Coin, Aside, Advances, Happens}
+use Rattle.rules.specs.Turns.{said, decision_after, moved, advancing, Coin}
+use Rattle.rules.specs.Runs.{Event, opened, advanced, Aside, Advances, Happens}
 use Rattle.rules.proofs.Stages.{Shown}
 use Rattle.rules.proofs.Records.{Rows}
 use Rattle.rules.proofs.Cases.{CaseShown, Tale, same_tale, carried, all_carried, case_opened, case_advanced}
 use Rattle.rules.proofs.Ballots.{same_ballots, moved_here, moved_other, moved_large, said_other, said_round, opened_elsewhere, advanced_elsewhere}
 use Rattle.rules.proofs.Shows.{Shows, Mirrors, as_large, items_on, bodies_on, stranger, OpenAllowed, open_allowed, AdvanceAllowed, advance_allowed}
-use Rattle.rules.proofs.Follows.{Follow, joined_all, known_told}
+use Rattle.rules.proofs.Follows.{Follow, joined, known_told}
 
 module _ (line : Line) (capacity : ℕ) (coin : Coin) (es : List Event) (h : Held) (ws : List Message) (st : State) (shows : Shows line coin es h ws st) where
   -- a ballot is said in a case of process i, or only its record changes
@@ -81,7 +81,7 @@ module _ (line : Line) (capacity : ℕ) (coin : Coin) (es : List Event) (h : Hel
     by_opened =
         let inside = ballot_within line.plan i c 1 open_may.process open_may.case (omega arith) (omega (arith, line.plan.first)) in (
           open_state,
-          λ run. machine.after run (machine.tell (Ballot i c 1) v left (open_may.process, open_may.correct) open_none (joined_all line capacity coin es h ws st shows line.plan.n i Initial (Ballot i c 1) v left d.carrier)),
+          λ run. machine.after run (machine.tell (Ballot i c 1) v left (open_may.process, open_may.correct) open_none (joined line capacity coin es h ws st shows (to_all line.plan.n i Initial (Ballot i c 1) v) left d.carrier)),
           subst (λ x. Shows line coin (opened i c v posted ∷ es) x left open_state) (sym d.memory) (record {
             mirrors = mirrored i c open_may.process open_may.case 1 _ open_state.said left left (λ j k. refl) (λ p. refl) (known_told line capacity coin es h ws st shows i (Ballot i c 1) v left open_may.process inside d.carrier);
             items = items_on (opened i c v posted) es st open_state (λ j k b x. x) (λ j k. refl) shows.items;
@@ -118,7 +118,7 @@ module _ (line : Line) (capacity : ℕ) (coin : Coin) (es : List Event) (h : Hel
     r_is = a.from ∙ at
 
     abbrev new_held : Held
-    new_held = moved line i c (r + 1) (settled (case_at h (case_place line.plan i c)).decision x (r / 3)) h
+    new_held = (advancing line h coin i c r a.step).held
 
     abbrev body : ℕ
     body = ballot_number (said a.step.next (coin i c (suc q / 3)))
@@ -133,11 +133,11 @@ module _ (line : Line) (capacity : ℕ) (coin : Coin) (es : List Event) (h : Hel
     module _ (now : State) (old : (k : ℕ) → k ≤ suc q → now.said (Ballot i c k) ≡ st.said (Ballot i c k)) (new : (b : ℕ) → now.said (Ballot i c (suc (suc q))) ≡ Some b → b ≡ body) (sent : suc q < 3 * line.plan.phases → now.said (Ballot i c (suc (suc q))) ≡ Some body) (silent : (k : ℕ) → suc (suc q) < k → now.said (Ballot i c k) ≡ st.said (Ballot i c k)) (others : (j d k : ℕ) → (eqb j i && eqb d c) ≡ false → now.said (Ballot j d k) ≡ st.said (Ballot j d k)) where
       advanced_here : CaseShown line coin onward new_held now i c
       advanced_here =
-          let written = moved_here line h shows.mirrors.large i c (r + 1) (settled (case_at h (case_place line.plan i c)).decision x (r / 3)) may_advance_lem.process may_advance_lem.case in
+          let written = moved_here line h shows.mirrors.large i c (r + 1) (decision_after (case_at h (case_place line.plan i c)).decision a.step.decides (r / 3)) may_advance_lem.process may_advance_lem.case in
           case_advanced line coin es h st i c in_case q (chosen line.plan h i c) a.step reached posted new_held now at
           (ap (λ (z : CaseRecord). z.round) written ∙ omega (arith, r_is))
           (step_law.says a.step refl)
-          (ap (λ (z : CaseRecord). z.decision) written ∙ ap₂ (λ o (k : ℕ). settled (case_at h (case_place line.plan i c)).decision o (k / 3)) a.decision r_is)
+          (ap (λ (z : CaseRecord). z.decision) written ∙ ap (λ (k : ℕ). decision_after (case_at h (case_place line.plan i c)).decision a.step.decides (k / 3)) r_is)
           (same_ballots line h new_held refl i c) old new sent silent
 
       advanced_cases : (j d : ℕ) → j < line.plan.n → d < line.plan.cases → CaseShown line coin onward new_held now j d
@@ -179,7 +179,7 @@ module _ (line : Line) (capacity : ℕ) (coin : Coin) (es : List Event) (h : Hel
         subst₂ (λ (k b : ℕ). Same left (to_all n i Initial (Ballot i c k) b ++ ws)) subject_is body_is (subst (λ ms. Same left (ms ++ ws)) (cond-true (ltb r (3 * line.plan.phases)) _ [] early) a.done.carrier) in
         let inside = ballot_within line.plan i c (suc (suc q)) may_advance_lem.process may_advance_lem.case (omega arith) (omega (arith, before, r_is)) in (
           ballot_state,
-          λ run. machine.after run (machine.tell (Ballot i c (suc (suc q))) body left (may_advance_lem.process, may_advance_lem.correct) unsaid_next (joined_all line capacity coin es h ws st shows n i Initial (Ballot i c (suc (suc q))) body left end)),
+          λ run. machine.after run (machine.tell (Ballot i c (suc (suc q))) body left (may_advance_lem.process, may_advance_lem.correct) unsaid_next (joined line capacity coin es h ws st shows (to_all n i Initial (Ballot i c (suc (suc q))) body) left end)),
           subst (λ y. Shows line coin onward y left ballot_state) (sym a.done.memory) (record {
             mirrors = mirrored i c may_advance_lem.process may_advance_lem.case (r + 1) _ ballot_state.said left left (λ j k. refl) (λ p. refl) (known_told line capacity coin es h ws st shows i (Ballot i c (suc (suc q))) body left may_advance_lem.process inside end);
             items = items_on (advanced i c (suc q) a.step.forced a.step.decides reached posted) es st ballot_state (λ j k b x. x) (λ j k. refl) shows.items;

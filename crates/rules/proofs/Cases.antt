@@ -1,7 +1,7 @@
 -- What is known of a case at one process after a run.
 use Rattle.std.proofs.Common.{◌≡◌, ℕ, zero, suc, ◌*◌, ◌/◌, ◌<◌, ◌≤◌, Bool, ◌⊎◌, List, ◌∷◌, Some, None, Option, sym, refl, ap, ◌∙◌, subst, inl, inr, ⊎_elim, arith}
 use Rattle.std.proofs.lemmas.Bool.{and_from, eq-eqb, cond-true, cases_lt}
-use Rattle.protocol.specs.Numbers.{side_number, ballot_number, vote}
+use Rattle.protocol.specs.Numbers.{ballot_number, vote}
 use Rattle.protocol.specs.declared.messages.Subject.TheVariants.{Ballot}
 use Rattle.protocol.specs.declared.votes.Ballot as votes
 use Rattle.protocol.specs.declared.votes.Side.{Side}
@@ -21,8 +21,8 @@ use Rattle.ballots.specs.Places.{ballots_at}
 use Rattle.cases.specs.Steps.{round_at, Says}
 use Rattle.cases.specs.declared.steps.Step.{Step}
 use Rattle.agreement.specs.Runs.{State}
-use Rattle.rules.specs.Turns.{said, settled}
-use Rattle.rules.specs.Runs.{Event, opened, advanced, Coin, Told, Opening, Advancing, decision_of}
+use Rattle.rules.specs.Turns.{said, decision_after, Coin}
+use Rattle.rules.specs.Runs.{Event, opened, advanced, Told, Opening, Advancing, decision_of}
 
 -- process i left round r of case c by ballots that force v, that decide v
 abbrev pub ForcedAt : List Event → ℕ → ℕ → ℕ → Side → Type 0
@@ -38,8 +38,8 @@ pub record CaseShown (line : Line) (coin : Coin) (es : List Event) (h : Held) (s
   pub bound : (r : ℕ) (f x : Option Side) → Told (Advancing i c r f x) es → (1 ≤ r) × (r < round_at line.plan h i c)
   pub gone : (r : ℕ) → 1 ≤ r → r < round_at line.plan h i c → (f x : Option Side) × Told (Advancing i c r f x) es
   pub decision : (case_at h (case_place line.plan i c)).decision ≡ decision_of es i c
-  pub votes : (v : Side) → Told (Opening i c v) es → st.said (Ballot i c 1) ≡ Some (side_number v)
-  pub voted : (v : Side) → st.said (Ballot i c 1) ≡ Some (side_number v) → Told (Opening i c v) es
+  pub votes : (v : Side) → Told (Opening i c v) es → st.said (Ballot i c 1) ≡ Some (ballot_number (vote v))
+  pub voted : (v : Side) → st.said (Ballot i c 1) ≡ Some (ballot_number (vote v)) → Told (Opening i c v) es
 
 -- es and later tell the same of case c at process i
 pub record Tale (es later : List Event) (i c : ℕ) : Type 0 where
@@ -62,11 +62,7 @@ untold e es i c no_advance no_open same = record {
   decision = same;
 }
 
-pub vote_number : (v : Side) → ballot_number (vote v) ≡ side_number v
-vote_number Keep = refl
-vote_number Release = refl
-
-pub side_of : (v : ℕ) → v ≤ 1 → (u : Side) × (v ≡ side_number u)
+pub side_of : (v : ℕ) → v ≤ 1 → (u : Side) × (v ≡ ballot_number (vote u))
 side_of zero le = (Keep, refl)
 side_of (suc zero) le = (Release, refl)
 side_of (suc (suc v)) le = absurd (omega arith)
@@ -113,8 +109,8 @@ module _ (line : Line) (coin : Coin) (es : List Event) (h : Held) (st : State) (
       bound = λ r f x told. ⊎_elim (λ z. absurd z) (λ z. absurd (omega (arith, (shown.bound r f x z).1, at))) told;
       gone = λ r le lt. absurd (omega (arith, round));
       decision = decision ∙ shown.decision;
-      votes = λ u told. ⊎_elim (λ x. here ∙ ap Some x.2) (λ x. absurd (none_some _ (side_number u) (shown.unsaid 0 (omega (arith, at))) (shown.votes u x))) told;
-      voted = λ u e. inl (refl, refl, some_once _ v (side_number u) here e);
+      votes = λ u told. ⊎_elim (λ x. here ∙ ap Some x.2) (λ x. absurd (none_some _ (ballot_number (vote u)) (shown.unsaid 0 (omega (arith, at))) (shown.votes u x))) told;
+      voted = λ u e. inl (refl, refl, some_once _ v (ballot_number (vote u)) here e);
     }
       where
         later : (q : ℕ) → round_at line.plan next i c ≤ q → now.said (Ballot i c (suc q)) ≡ None
@@ -122,11 +118,11 @@ module _ (line : Line) (coin : Coin) (es : List Event) (h : Held) (st : State) (
         later (suc q) le = same q ∙ shown.unsaid (suc q) (omega (arith, at))
 
         first : (q : ℕ) → q < round_at line.plan next i c → q < 3 * line.plan.phases → (b : ℕ) × (now.said (Ballot i c (suc q)) ≡ Some b) × Justified n t (ballots_at line.plan next i c) q b
-        first zero lt below = let u = side_of v vote_is in (v, here, (u.0, u.1 ∙ sym (vote_number u.0)))
+        first zero lt below = let u = side_of v vote_is in (v, here, u)
         first (suc q) lt below = absurd (omega (arith, round))
 
   -- the process advances from round q + 1 by a set S
-  module _ (q : ℕ) (S : ℕ → Bool) (step : Step) (reached posted : ℕ) (next : Held) (now : State) (at : round_at line.plan h i c ≡ suc q) (round : round_at line.plan next i c ≡ suc (suc q)) (says : Says n t G q S step) (decision : (case_at next (case_place line.plan i c)).decision ≡ settled (case_at h (case_place line.plan i c)).decision step.decides (suc q / 3)) (part : Part G (ballots_at line.plan next i c)) where
+  module _ (q : ℕ) (S : ℕ → Bool) (step : Step) (reached posted : ℕ) (next : Held) (now : State) (at : round_at line.plan h i c ≡ suc q) (round : round_at line.plan next i c ≡ suc (suc q)) (says : Says n t G q S step) (decision : (case_at next (case_place line.plan i c)).decision ≡ decision_after (case_at h (case_place line.plan i c)).decision step.decides (suc q / 3)) (part : Part G (ballots_at line.plan next i c)) where
     abbrev body : ℕ
     body = ballot_number (said step.next (coin i c (suc q / 3)))
 
@@ -200,7 +196,7 @@ module _ (line : Line) (coin : Coin) (es : List Event) (h : Held) (st : State) (
             let is : suc q ≡ r = omega (arith, round) in
             (step.forced, step.decides, inl (refl, refl, is, refl, refl)))
             (cases_lt r (suc q));
-        decision = decision ∙ ap (λ o. settled o step.decides (suc q / 3)) shown.decision ∙ sym (cond-true _ _ _ (and_from _ _ (eq-eqb i i refl) (eq-eqb c c refl)));
+        decision = decision ∙ ap (λ o. decision_after o step.decides (suc q / 3)) shown.decision ∙ sym (cond-true _ _ _ (and_from _ _ (eq-eqb i i refl) (eq-eqb c c refl)));
         votes = λ v told. ⊎_elim (λ z. absurd z) (λ z. old 1 (omega arith) ∙ shown.votes v z) told;
         voted = λ v e. inr (shown.voted v (sym (old 1 (omega arith)) ∙ e));
       }

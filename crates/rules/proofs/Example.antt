@@ -33,8 +33,8 @@ use Rattle.consensus.specs.Validity.{lowest}
 use Rattle.cases.specs.Steps.{step_at, step_by}
 use Rattle.cases.specs.declared.steps.Step.{Step}
 use Rattle.rules.specs.Turns as turns
-use Rattle.rules.specs.Turns.{refusal, reacted, replies, moved, said, settled}
-use Rattle.rules.specs.Runs.{Event, Coin, Run, begun, after, announced, opened, delivered, advanced, Told, Opening, Advancing, Opened, Forced, Ended}
+use Rattle.rules.specs.Turns.{refusal, reacted, replies, moved, said, decision_after, Coin}
+use Rattle.rules.specs.Runs.{Event, Run, begun, after, announced, opened, delivered, advanced, Told, Opening, Advancing, Opened, Forced, Ended}
 use Rattle.rules.specs.Promises.{Correct, Stuck, Happening}
 use Rattle.rules.proofs.Theorem.{kept}
 
@@ -92,7 +92,7 @@ letter step s b = message 0 0 step s b
 abbrev vote : ℕ → Subject
 vote r = Ballot 0 0 r
 
-did : {d : Deed} {h : Held} {sent : List Message} {accepts : Bool} (ws : List Message) → d ≡ done h sent accepts → turns.Done d.refused d.held h d.sent ws (sent ++ ws) (length sent)
+did : {d : Deed} {h : Held} {sent : List Message} {accepts : Bool} (ws : List Message) → d ≡ done h sent accepts → turns.Done d.refused (turns.effect d.held d.sent) h ws (sent ++ ws) (length sent)
 did ws e = record {
   allowed = ap (λ (x : Deed). x.refused) e;
   memory = sym (ap (λ (x : Deed). x.held) e);
@@ -134,7 +134,7 @@ module _ (s : Subject) (b : ℕ) (bs : List ℕ) (left round : ℕ) (decision : 
 abbrev going : Held → ℕ → Step → Deed
 going h r step = record {
   refused = refusal line 3 h [] (turns.Advance 0 0);
-  held = moved line 0 0 (r + 1) (settled (case_at h 0).decision step.decides (r / 3)) h;
+  held = moved line 0 0 (r + 1) (decision_after (case_at h 0).decision step.decides (r / 3)) h;
   sent = turns.ballots line 0 0 r (said step.next Release);
   accepts = false;
 }

@@ -17,12 +17,11 @@ use Rattle.agreement.specs.Runs as machine
 use Rattle.agreement.specs.Runs.{State, told}
 use Rattle.consensus.specs.Validity.{Part}
 use Rattle.ballots.specs.Places.{ballots_at}
-use Rattle.rules.specs.Turns.{said}
-use Rattle.rules.specs.Runs.{Event, Coin, Opening, Advancing, decision_of}
+use Rattle.rules.specs.Turns.{said, Coin}
+use Rattle.rules.specs.Runs.{Event, Opening, Advancing, decision_of}
 use Rattle.rules.proofs.Records.{world_of}
 use Rattle.rules.proofs.Cases.{CasesShown, untold, all_carried}
 use Rattle.rules.proofs.Shows.{Shows, stranger, no_stranger}
-use Rattle.rules.proofs.Sending.{to_all_alike, in_front}
 
 -- the machine can follow to a state that shows where the run came to
 abbrev pub Follow : Line → Coin → State → List Event → Held → List Message → Type 0
@@ -30,12 +29,8 @@ Follow line coin st es h ws = (next : State) × (machine.Run (world_of line) st 
 
 module _ (line : Line) (capacity : ℕ) (coin : Coin) (es : List Event) (h : Held) (ws : List Message) (st : State) (shows : Shows line coin es h ws st) where
   -- what is sent joins what waits
-  joined : (sent left : List Message) → Same left (sent ++ ws) → Same left (sent ++ st.waiting)
+  pub joined : (sent left : List Message) → Same left (sent ++ ws) → Same left (sent ++ st.waiting)
   joined sent left same p = omega (arith, same p, count_append p sent ws, count_append p sent st.waiting, shows.mirrors.waits p)
-
-  -- and the machine may send it in its own order
-  pub joined_all : (n i : ℕ) (step : Step) (s : Subject) (b : ℕ) (left : List Message) → Same left (to_all n i step s b ++ ws) → Same left (machine.to_all n i step s b ++ st.waiting)
-  joined_all n i step s b left same = in_front _ _ st.waiting left (to_all_alike n i step s b) (joined (to_all n i step s b) left same)
 
   -- what a process of the line tells has no stranger
   pub known_told : (i : ℕ) (s : Subject) (b : ℕ) (left : List Message) → i < line.plan.n → within line.plan s ≡ true → Same left (to_all line.plan.n i Initial s b ++ ws) → count (stranger line) left ≡ 0

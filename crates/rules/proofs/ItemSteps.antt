@@ -25,14 +25,13 @@ use Rattle.agreement.proofs.Bodies.{when_stays, when_set, when_from}
 use Rattle.agreement.proofs.Theorem.{lasts}
 use Rattle.consensus.specs.Validity.{Part}
 use Rattle.ballots.specs.Places.{ballots_at}
-use Rattle.rules.specs.Turns.{faulty, refusal, Deliver, reacted, replies, Done}
-use Rattle.rules.specs.Runs.{Event, refused, announced, forged, delivered, Coin, Announces, Delivers, Happens, Announcing, Accepting, Advancing, Opening, decision_of}
+use Rattle.rules.specs.Turns.{faulty, refusal, Deliver, reacted, replies, effect, Done, Coin}
+use Rattle.rules.specs.Runs.{Event, refused, announced, forged, delivered, Announces, Delivers, Happens, Announcing, Accepting, Advancing, Opening, decision_of}
 use Rattle.rules.proofs.Records.{world_of}
 use Rattle.rules.proofs.Ballots.{same_ballots, ballot_accepted, accepted_ballot}
 use Rattle.rules.proofs.Shows.{Shows, as_large, items_on, bodies_on, stranger, AnnounceAllowed, announce_allowed, forge_allowed, deliver_allowed, no_stranger, no_strange_sender, not_stranger}
 use Rattle.rules.proofs.Deliveries as deliveries
-use Rattle.rules.proofs.Sending.{in_front}
-use Rattle.rules.proofs.Follows.{Follow, joined_all, known_told, still}
+use Rattle.rules.proofs.Follows.{Follow, joined, known_told, still}
 
 module _ (line : Line) (capacity : ℕ) (coin : Coin) (es : List Event) (h : Held) (ws : List Message) (st : State) (shows : Shows line coin es h ws st) where
   -- an event that tells nothing and changes no more than what waits
@@ -134,7 +133,7 @@ module _ (line : Line) (capacity : ℕ) (coin : Coin) (es : List Event) (h : Hel
     pub by_announced : Follow line coin st (announced i b k posted ∷ es) after left
     by_announced = (
       next,
-      λ run. machine.after run (machine.tell (Item i k) b left (may.process, may.correct) none_said (joined_all line capacity coin es h ws st shows line.plan.n i Initial (Item i k) b left a.done.carrier)),
+      λ run. machine.after run (machine.tell (Item i k) b left (may.process, may.correct) none_said (joined line capacity coin es h ws st shows (to_all line.plan.n i Initial (Item i k) b) left a.done.carrier)),
       subst (λ x. Shows line coin (announced i b k posted ∷ es) x left next) (sym a.done.memory) shown,
     )
 
@@ -155,8 +154,8 @@ module _ (line : Line) (capacity : ℕ) (coin : Coin) (es : List Event) (h : Hel
     taken p = shows.mirrors.waits p ∙ d.taken p
 
     -- the turn with what the message did
-    done : (o : Outcome) → reacted line m h ≡ o → Done (refusal line capacity h ws (Deliver i pick)) o.held after (replies line.plan.n m o.reaction) d.rest left posted
-    done o e = subst (λ (x : Outcome). Done (refusal line capacity h ws (Deliver i pick)) x.held after (replies line.plan.n m x.reaction) d.rest left posted) e d.done
+    done : (o : Outcome) → reacted line m h ≡ o → Done (refusal line capacity h ws (Deliver i pick)) (effect o.held (replies line.plan.n m o.reaction)) after d.rest left posted
+    done o e = subst (λ (x : Outcome). Done (refusal line capacity h ws (Deliver i pick)) (effect x.held (replies line.plan.n m x.reaction)) after d.rest left posted) e d.done
 
     answer : (o : Outcome) → reacted line m h ≡ o → accepting ≡ o.reaction.accepted
     answer o e = d.answer ∙ ap (λ (x : Outcome). x.reaction.accepted) e
@@ -192,7 +191,7 @@ module _ (line : Line) (capacity : ℕ) (coin : Coin) (es : List Event) (h : Hel
         let here = deliveries.here_is line h shows.mirrors.large m to sound.0 sound.1 st.recs shows.mirrors.records in
         let a = m.addressee in
         let sent : Same left (sends line.plan.n a m.subject (st.recs a m.subject) (machine.delivered (world_of line) m st.recs a m.subject) ++ d.rest) =
-        subst (λ (r : Rec). Same left (sends line.plan.n a m.subject (st.recs a m.subject) r ++ d.rest)) (sym here) (in_front _ _ d.rest left at.sent end.carrier) in
+        subst (λ (r : Rec). Same left (sends line.plan.n a m.subject (st.recs a m.subject) r ++ d.rest)) (sym here) (subst (λ (xs : List Message). Same left (xs ++ d.rest)) at.sent end.carrier) in
         let turn : machine.Turn (world_of line) st next = machine.deliver m d.rest left (to, good) taken sent in
         let grows : (j d : ℕ) → j < line.plan.n → Part (ballots_at line.plan h j d) (ballots_at line.plan o.held j d) = λ j d lt k r b x.
         let old = ballot_accepted line h st.recs shows.mirrors.records j d k r b lt x in

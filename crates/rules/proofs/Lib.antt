@@ -1,5 +1,4 @@
 pub mod Cases
-pub mod Sending
 pub mod Stages
 pub mod Rows
 pub mod Records

@@ -93,4 +93,4 @@ module _ (line : Line) (q : ℕ) (xs : List (Option ℕ)) (fits : readies line.p
     follows_made _ _ _ _ silent = by_steps m.step Silent None None silent
     follows_made _ _ _ _ (echoed b) = by_steps m.step Echoed (Some b) None (echoed b)
     follows_made _ _ _ _ (readied b c) = by_steps m.step Readied (Some b) (Some c) (readied b c)
-    follows_made _ _ _ _ (accepted b c d) = record { shown = accepted b c d; sent = λ p. refl; accepts = λ h. absurd (both_ways false refl h); from = λ k h. inl h }
+    follows_made _ _ _ _ (accepted b c d) = record { shown = accepted b c d; sent = refl; accepts = λ h. absurd (both_ways false refl h); from = λ k h. inl h }

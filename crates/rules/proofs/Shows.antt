@@ -23,8 +23,8 @@ use Rattle.memory.proofs.Wiping.{wiped_length, wiped_at}
 use Rattle.agreement.specs.Records.{Rec}
 use Rattle.agreement.specs.Runs.{State, start}
 use Rattle.cases.specs.Steps.{round_at}
-use Rattle.rules.specs.Turns.{faulty, refusal, Announce, Open, Forge, Deliver, Advance}
-use Rattle.rules.specs.Runs.{Event, Coin, Announcing, Accepting, Announced, Accepted}
+use Rattle.rules.specs.Turns.{faulty, refusal, Announce, Open, Forge, Deliver, Advance, Coin}
+use Rattle.rules.specs.Runs.{Event, Announcing, Accepting, Announced, Accepted}
 use Rattle.rules.proofs.Stages as stages
 use Rattle.rules.proofs.Stages.{Shown}
 use Rattle.rules.proofs.Records.{Rows}

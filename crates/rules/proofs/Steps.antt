@@ -4,7 +4,8 @@ use Rattle.protocol.specs.declared.messages.Message.{Message}
 use Rattle.plan.specs.Kinds.{Line}
 use Rattle.memory.specs.Contents.{Held}
 use Rattle.agreement.specs.Runs.{State}
-use Rattle.rules.specs.Runs.{Event, refused, announced, opened, forged, delivered, advanced, Coin, Happens}
+use Rattle.rules.specs.Turns.{Coin}
+use Rattle.rules.specs.Runs.{Event, refused, announced, opened, forged, delivered, advanced, Happens}
 use Rattle.rules.proofs.Shows.{Shows}
 use Rattle.rules.proofs.Follows.{Follow}
 use Rattle.rules.proofs.ItemSteps.{by_refused, by_announced, by_forged, by_delivered}

@@ -1,7 +1,7 @@
 -- After every run the promises hold.
 use Rattle.std.proofs.Common.{◌≡◌, ℕ, zero, suc, ◌+◌, ◌-◌, ◌*◌, ◌/◌, ◌<◌, ◌≤◌, true, false, List, [], Some, None, Option, sym, refl, ap, ◌∙◌, subst, ⊎_elim, arith}
 use Rattle.std.proofs.lemmas.Bool.{and_from, cond-true, cond-false, cases_Bool, cases_lt}
-use Rattle.protocol.specs.Numbers.{ballot_number, side_number, vote}
+use Rattle.protocol.specs.Numbers.{ballot_number, vote}
 use Rattle.protocol.specs.Thresholds.{Sound}
 use Rattle.protocol.specs.declared.messages.Message.{Message}
 use Rattle.protocol.specs.declared.messages.Subject.TheVariants.{Item, Ballot}
@@ -10,7 +10,7 @@ use Rattle.agreement.proofs.Bodies.{none_some, some_once}
 use Rattle.plan.specs.Sheet.{thresholds_of}
 use Rattle.plan.specs.Kinds.{Line}
 use Rattle.plan.proofs.Marked.{few_marked}
-use Rattle.carrier.specs.Waiting.{addressed}
+use Rattle.protocol.specs.Bags.{addressed}
 use Rattle.memory.specs.Contents.{Held}
 use Rattle.memory.specs.Places.{within}
 use Rattle.agreement.specs.Worlds.{Lawful}
@@ -29,12 +29,12 @@ use Rattle.ballots.specs.Places.{ballots_at}
 use Rattle.ballots.proofs.Reading.{ballot_within, covered}
 use Rattle.cases.specs.Steps.{round_at, may_advance, step_at, chosen}
 use Rattle.cases.proofs.Going.{law}
-use Rattle.rules.specs.Turns.{faulty}
-use Rattle.rules.specs.Runs.{Event, Coin, Run, begun, after, aside, Straight, at_opening, one_more, Told, Advancing, Opened, Ended, Forced, Decided}
+use Rattle.rules.specs.Turns.{faulty, Coin}
+use Rattle.rules.specs.Runs.{Event, Run, begun, after, aside, Straight, at_opening, one_more, Told, Advancing, Opened, Ended, Forced, Decided}
 use Rattle.rules.specs.Promises.{Correct, Quiet, Stuck, AtRest, Luck, Promises, Kept}
 use Rattle.rules.proofs.Stages.{shown_accepted}
 use Rattle.rules.proofs.Records.{world_of}
-use Rattle.rules.proofs.Cases.{CaseShown, ForcedAt, DecidedAt, vote_number}
+use Rattle.rules.proofs.Cases.{CaseShown, ForcedAt, DecidedAt}
 use Rattle.rules.proofs.Ballots.{ballot_accepted, accepted_ballot}
 use Rattle.rules.proofs.Shows.{Shows, at_start}
 use Rattle.rules.proofs.Steps.{follow}
@@ -80,7 +80,7 @@ module _ (line : Line) where
     all : broadcasts.Broadcasts (world_of line) st
     all = theorem.broadcasts (world_of line) lawful st run
 
-    rests : Quiet line ws → broadcasts.AtRest (world_of line) st
+    rests : Quiet line ws → broadcasts.Quiet (world_of line) st
     rests quiet i c = shows.mirrors.waits (addressed i) ∙ quiet i c
 
     -- one case of the plan
@@ -141,13 +141,13 @@ module _ (line : Line) where
       -- of one process
       module _ (i : ℕ) (ci : Correct line i) where
         began : (v : Side) → Opened es i c v → 0 < rounds i
-        began v t = ⊎_elim (λ (l : 0 < rounds i). l) (λ (l : rounds i ≤ 0). absurd (none_some _ (side_number v) ((held i ci).unsaid 0 l) ((held i ci).votes v t))) (cases_lt 0 (rounds i))
+        began v t = ⊎_elim (λ (l : 0 < rounds i). l) (λ (l : rounds i ≤ 0). absurd (none_some _ (ballot_number (vote v)) ((held i ci).unsaid 0 l) ((held i ci).votes v t))) (cases_lt 0 (rounds i))
 
         voted : 0 < rounds i → (v : Side) × Opened es i c v
         voted lt =
             let x = (held i ci).spoke 0 lt (omega (arith, line.plan.first)) in
             let u = x.2.0 in
-            (u, (held i ci).voted u (x.1 ∙ ap Some (x.2.1 ∙ vote_number u)))
+            (u, (held i ci).voted u (x.1 ∙ ap Some x.2.1))
 
         -- to the code a process may not advance exactly where it is stuck
         stuck : may_advance line.plan h i c ≡ false → Stuck line h i c
@@ -172,7 +172,7 @@ module _ (line : Line) where
           open_case : 0 < rounds o → b ≡ ballot_number (vote v)
           open_case lt =
               let v = voted o co lt in
-              some_once _ b _ e ((held o co).votes v.0 v.1) ∙ sym (vote_number v.0) ∙ ap (λ w. ballot_number (vote w)) (same o v.0 co v.1)
+              some_once _ b _ e ((held o co).votes v.0 v.1) ∙ ap (λ w. ballot_number (vote w)) (same o v.0 co v.1)
 
       -- at rest
       module _ (rest : AtRest line h ws) (opened : (o : ℕ) → Correct line o → (v : Side) × Opened es o c v) where

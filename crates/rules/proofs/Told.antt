@@ -3,7 +3,7 @@ use Rattle.std.proofs.Common.{◌≡◌, ℕ, ◌/◌, Bool, true, false, cond, 
 use Rattle.std.proofs.lemmas.Bool.{and_parts, and_from, eqb-true, eq-eqb, cond-true}
 use Rattle.protocol.specs.declared.votes.Side.{Side}
 use Rattle.memory.specs.declared.records.Decision.{Decision}
-use Rattle.rules.specs.Turns.{settled}
+use Rattle.rules.specs.Turns.{decision_after}
 use Rattle.rules.specs.Runs.{Event, refused, announced, opened, forged, delivered, advanced, Told, Advancing, decision_of}
 
 no_decision : (d : Decision) → ◌≡◌ {A = Option Decision} None (Some d) → ⊥
@@ -16,7 +16,7 @@ Tells es i c v = (r : ℕ) × (f : Option Side) × Told (Advancing i c r f (Some
 module _ (i c : ℕ) where
   -- a decision was told by an advance
   module _ (es : List Event) (d : Decision) (before : decision_of es i c ≡ Some d → Tells es i c d.side) (j k r : ℕ) (f x : Option Side) (reached posted : ℕ) where
-    newest : (b : Bool) → (eqb i j && eqb c k) ≡ b → (o : Option Decision) → decision_of es i c ≡ o → (y : Option Side) → x ≡ y → cond b (settled o y (r / 3)) o ≡ Some d → Tells (advanced j k r f x reached posted ∷ es) i c d.side
+    newest : (b : Bool) → (eqb i j && eqb c k) ≡ b → (o : Option Decision) → decision_of es i c ≡ o → (y : Option Side) → x ≡ y → cond b (decision_after o y (r / 3)) o ≡ Some d → Tells (advanced j k r f x reached posted ∷ es) i c d.side
     newest false e o p x₁ z h = let y = before (p ∙ h) in (y.0, y.1, inr y.2)
     newest true e (Some old) p x₁ z h = let y = before (p ∙ h) in (y.0, y.1, inr y.2)
     newest true e None p None z h = absurd (no_decision d h)
@@ -39,11 +39,11 @@ module _ (i c : ℕ) where
   abbrev Stands : List Event → Type 0
   Stands es = (d : Decision) × (decision_of es i c ≡ Some d)
 
-  settled_stands : (o : Option Decision) (v : Side) (k : ℕ) → (d : Decision) × (settled o (Some v) k ≡ Some d)
+  settled_stands : (o : Option Decision) (v : Side) (k : ℕ) → (d : Decision) × (decision_after o (Some v) k ≡ Some d)
   settled_stands None v k = (_, refl)
   settled_stands (Some d) v k = (d, refl)
 
-  still : (b : Bool) (o : Option Decision) (x : Option Side) (k : ℕ) (d : Decision) → o ≡ Some d → cond b (settled o x k) o ≡ Some d
+  still : (b : Bool) (o : Option Decision) (x : Option Side) (k : ℕ) (d : Decision) → o ≡ Some d → cond b (decision_after o x k) o ≡ Some d
   still false o x k d e = e
   still true None x k d e = absurd (no_decision d e)
   still true (Some old) x k d e = e
@@ -58,5 +58,5 @@ module _ (i c : ℕ) where
   decision_stands (advanced j k q g x reached posted ∷ es) r f v t =
       ⊎_elim (λ z.
       let s = settled_stands (decision_of es i c) v (q / 3) in
-      (s.0, cond-true _ _ _ (and_from _ _ (eq-eqb i j (sym z.0)) (eq-eqb c k (sym z.1))) ∙ ap (λ o. settled (decision_of es i c) o (q / 3)) z.4 ∙ s.1))
+      (s.0, cond-true _ _ _ (and_from _ _ (eq-eqb i j (sym z.0)) (eq-eqb c k (sym z.1))) ∙ ap (λ o. decision_after (decision_of es i c) o (q / 3)) z.4 ∙ s.1))
       (λ z. let s = decision_stands es r f v z in (s.0, still (eqb i j && eqb c k) (decision_of es i c) x (q / 3) s.0 s.1)) t

@@ -5,22 +5,22 @@ use Rattle.protocol.specs.declared.messages.Subject.{Subject}
 use Rattle.protocol.specs.declared.messages.Subject.TheVariants.{Item}
 use Rattle.protocol.specs.declared.votes.Side.{Side}
 use Rattle.protocol.specs.declared.votes.Side.TheVariants.{Release}
+use Rattle.protocol.specs.Faults.{CorrectOf, QuietOf}
 use Rattle.plan.specs.Kinds.{Line}
-use Rattle.carrier.specs.Waiting.{waiting_for}
-use Rattle.memory.specs.Contents.{Held, stage_at, case_at, accepted_body}
-use Rattle.memory.specs.Places.{within, place, case_place}
+use Rattle.memory.specs.Contents.{Held, case_at}
+use Rattle.memory.specs.Places.{within, body_at, case_place}
 use Rattle.consensus.specs.Validity.{Quorum}
 use Rattle.ballots.specs.Places.{ballots_at}
 use Rattle.cases.specs.Steps.{round_at, may_advance}
-use Rattle.rules.specs.Turns.{faulty}
-use Rattle.rules.specs.Runs.{Event, Coin, Run, Announced, Accepted, Opened, Ended, Forced, Decided, decision_of}
+use Rattle.rules.specs.Turns.{faulty, Coin}
+use Rattle.rules.specs.Runs.{Event, Run, Announced, Accepted, Opened, Ended, Forced, Decided, decision_of}
 
 abbrev pub Correct : Line → ℕ → Type 0
-Correct line i = (i < line.plan.n) × (faulty line i ≡ false)
+Correct line i = CorrectOf line.plan.n (faulty line) i
 
 -- no message waits for a correct process
 abbrev pub Quiet : Line → List Message → Type 0
-Quiet line ws = (i : ℕ) → Correct line i → waiting_for i ws ≡ 0
+Quiet line ws = QuietOf line.plan.n (faulty line) ws
 
 -- Process i cannot go on in case c: it has not opened it or has ended it, or no n - t ballots of its round are valid at it.
 -- Rounds count from 0 in a set.
@@ -35,10 +35,6 @@ pub record AtRest (line : Line) (h : Held) (ws : List Message) : Type 0 where
 -- The code counts valid ballots. By this count a correct process may not advance exactly where it is stuck.
 abbrev pub Counted : Line → Held → Type 0
 Counted line h = (i c : ℕ) → Correct line i → c < line.plan.cases → (may_advance line.plan h i c ≡ false) ↔ Stuck line h i c
-
--- the body that memory has as accepted by process i for subject s
-abbrev pub body_at : Line → Held → ℕ → Subject → Option ℕ
-body_at line h i s = accepted_body (stage_at h (place line.plan i s))
 
 -- Agreement and validity.
 pub record Agreement (line : Line) (es : List Event) : Type 0 where
@@ -67,8 +63,8 @@ Luck line coin es = (c k : ℕ) (v : Side) → 1 ≤ k → ((o : ℕ) → Correc
 
 -- What memory has as accepted and as decided by a correct process, and the round that it has it in, are what the run tells of it.
 pub record Recorded (line : Line) (es : List Event) (h : Held) : Type 0 where
-  pub kept : (s : Subject) (i b : ℕ) → Correct line i → Accepted es i s b → body_at line h i s ≡ Some b
-  pub only : (s : Subject) (i b : ℕ) → Correct line i → within line.plan s ≡ true → body_at line h i s ≡ Some b → Accepted es i s b
+  pub kept : (s : Subject) (i b : ℕ) → Correct line i → Accepted es i s b → body_at line.plan h i s ≡ Some b
+  pub only : (s : Subject) (i b : ℕ) → Correct line i → within line.plan s ≡ true → body_at line.plan h i s ≡ Some b → Accepted es i s b
   pub inside : (s : Subject) (i b : ℕ) → Accepted es i s b → within line.plan s ≡ true
   pub decided : (i c : ℕ) → Correct line i → c < line.plan.cases → (case_at h (case_place line.plan i c)).decision ≡ decision_of es i c
   -- Its round is above 0 exactly if it opened the case, and above 3k exactly if it ended phase k.

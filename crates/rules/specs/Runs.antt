@@ -1,21 +1,18 @@
 -- Runs: turns one after another, from the cleared memory and the empty carrier that opening leaves. Assumes nothing.
 use Rattle.std.specs.Prelude.{◌≡◌, ℕ, ◌+◌, ◌*◌, ◌/◌, Bool, true, cond, ◌&&◌, ◌⊎◌, List, [], ◌∷◌, length, Some, None, Option, ◌==◌}
 use Rattle.protocol.specs.Bags.{Same}
-use Rattle.protocol.specs.Numbers.{side_number}
-use Rattle.protocol.specs.Sending.{to_all}
+use Rattle.protocol.specs.Numbers.{ballot_number, vote}
 use Rattle.protocol.specs.declared.messages.Message.{Message}
-use Rattle.protocol.specs.declared.messages.Step.TheVariants.{Initial}
 use Rattle.protocol.specs.declared.messages.Subject.{Subject}
-use Rattle.protocol.specs.declared.messages.Subject.TheVariants as subject
 use Rattle.protocol.specs.declared.votes.Side.{Side}
 use Rattle.protocol.specs.declared.refusals.Refusal.{Refusal}
 use Rattle.plan.specs.Kinds.{Line}
-use Rattle.memory.specs.Contents.{Held, cleared, case_at, serial_at, with_serial}
-use Rattle.memory.specs.Places.{enough, case_place}
+use Rattle.memory.specs.Contents.{Held, cleared, case_at, serial_at}
+use Rattle.memory.specs.Places.{enough}
 use Rattle.memory.specs.declared.records.Decision.{Decision}
 use Rattle.cases.specs.Steps.{round_at, step_at}
 use Rattle.cases.specs.declared.steps.Step.{Step}
-use Rattle.rules.specs.Turns.{Turn, Announce, Open, Forge, Deliver, Advance, refusal, initials, moved, said, settled, ballots, reacted, replies, Refused, Done}
+use Rattle.rules.specs.Turns.{Turn, Announce, Open, Forge, Deliver, Advance, Coin, refusal, decision_after, reacted, announcing, opening, forging, delivering, advancing, Refused, Done}
 
 -- a turn with what came of it: its refusal, or what it answered, and the message that a delivery took
 pub data Event : Type 0 where
@@ -36,30 +33,29 @@ turn_of (forged m posted) = Forge m
 turn_of (delivered i pick m posted accepted) = Deliver i pick
 turn_of (advanced i c r forced decides reached posted) = Advance i c
 
--- what a coin shows a process in a phase of a case
-abbrev pub Coin : Type 0
-Coin = (process case phase : ℕ) → Side
-
 module _ (line : Line) (capacity : ℕ) (h : Held) (ws : List Message) where
   -- the value goes out under the next serial
   pub record Announces (i b k posted : ℕ) (after : Held) (left : List Message) : Type 0 where
     pub serial : k ≡ serial_at h i
-    pub done : Done (refusal line capacity h ws (Announce i b)) (with_serial i (k + 1) h) after (initials line i k b) ws left posted
+    pub done : Done (refusal line capacity h ws (Announce i b)) (announcing line h i k b) after ws left posted
+
+  -- the process votes in the first round
+  abbrev pub OpensCase : (i c v posted : ℕ) → Held → List Message → Type 0
+  OpensCase i c v posted after left = Done (refusal line capacity h ws (Open i c v)) (opening line h i c v) after ws left posted
+
+  -- a faulty process says what it likes
+  abbrev pub Forges : (m : Message) (posted : ℕ) → Held → List Message → Type 0
+  Forges m posted after left = Done (refusal line capacity h ws (Forge m)) (forging line h m) after ws left posted
 
   -- one of the messages that waited for the process is taken
   pub record Delivers (i pick : ℕ) (m : Message) (posted : ℕ) (accepted : Bool) (after : Held) (left : List Message) : Type 0 where
     pub rest : List Message
     pub addressee : m.addressee ≡ i
     pub taken : Same ws (m ∷ rest)
-    pub done : Done (refusal line capacity h ws (Deliver i pick)) (reacted line m h).held after (replies line.plan.n m (reacted line m h).reaction) rest left posted
+    pub done : Done (refusal line capacity h ws (Deliver i pick)) (delivering line h m) after rest left posted
     pub answer : accepted ≡ (reacted line m h).reaction.accepted
 
-  -- the process votes in the first round
-  abbrev pub Opens : (i c v posted : ℕ) → Held → List Message → Type 0
-  Opens i c v posted after left =
-      Done (refusal line capacity h ws (Open i c v)) (moved line i c 1 (case_at h (case_place line.plan i c)).decision h) after (to_all line.plan.n i Initial (subject.Ballot i c 1) v) ws left posted
-
-  -- the process goes on by the ballots of the lowest originators; the phase of a third round is a third of it
+  -- the process goes on by the ballots of the lowest originators
   pub record Advances (coin : Coin) (i c r : ℕ) (forced decides : Option Side) (reached posted : ℕ) (after : Held) (left : List Message) : Type 0 where
     pub step : Step
     pub by : step_at line.plan h i c ≡ Some step
@@ -67,14 +63,14 @@ module _ (line : Line) (capacity : ℕ) (h : Held) (ws : List Message) where
     pub forces : forced ≡ step.forced
     pub decision : decides ≡ step.decides
     pub answer : reached ≡ r + 1
-    pub done : Done (refusal line capacity h ws (Advance i c)) (moved line i c (r + 1) (settled (case_at h (case_place line.plan i c)).decision decides (r / 3)) h) after (ballots line i c r (said step.next (coin i c (r / 3)))) ws left posted
+    pub done : Done (refusal line capacity h ws (Advance i c)) (advancing line h coin i c r step) after ws left posted
 
   -- the event leads to memory `after` with `left` waiting
   abbrev pub Happens : Coin → Event → Held → List Message → Type 0
   Happens coin (refused turn e) after left = Refused (refusal line capacity h ws turn) e h after ws left
   Happens coin (announced i b k posted) after left = Announces i b k posted after left
-  Happens coin (opened i c v posted) after left = Opens i c v posted after left
-  Happens coin (forged m posted) after left = Done (refusal line capacity h ws (Forge m)) h after (m ∷ []) ws left posted
+  Happens coin (opened i c v posted) after left = OpensCase i c v posted after left
+  Happens coin (forged m posted) after left = Forges m posted after left
   Happens coin (delivered i pick m posted accepted) after left = Delivers i pick m posted accepted after left
   Happens coin (advanced i c r forced decides reached posted) after left = Advances coin i c r forced decides reached posted after left
 
@@ -125,7 +121,7 @@ Accepting i s b (advanced j c r forced decides reached posted) = ⊥
 abbrev pub Opening : ℕ → ℕ → Side → Event → Type 0
 Opening i c v (refused turn e) = ⊥
 Opening i c v (announced j b l posted) = ⊥
-Opening i c v (opened j d w posted) = (j ≡ i) × (d ≡ c) × (w ≡ side_number v)
+Opening i c v (opened j d w posted) = (j ≡ i) × (d ≡ c) × (w ≡ ballot_number (vote v))
 Opening i c v (forged m posted) = ⊥
 Opening i c v (delivered j pick m posted accepted) = ⊥
 Opening i c v (advanced j d r forced decides reached posted) = ⊥
@@ -146,7 +142,7 @@ deciding i c (announced j b l posted) before = before
 deciding i c (opened j d w posted) before = before
 deciding i c (forged m posted) before = before
 deciding i c (delivered j pick m posted accepted) before = before
-deciding i c (advanced j d r forced decides reached posted) before = cond (i == j && c == d) (settled before decides (r / 3)) before
+deciding i c (advanced j d r forced decides reached posted) before = cond (i == j && c == d) (decision_after before decides (r / 3)) before
 
 abbrev pub Announced : List Event → ℕ → ℕ → ℕ → Type 0
 Announced es i k b = Told (Announcing i k b) es

@@ -8,7 +8,8 @@ ghost use Rattle.std.specs.Prelude.{ℕ, List};
 ghost use Rattle.plan.specs.Kinds.{Line};
 ghost use Rattle.memory.specs.Contents.{Held};
 ghost use Rattle.rules.specs.Promises.{Happening, Kept};
-ghost use Rattle.rules.specs.Runs.{Coin, Event};
+ghost use Rattle.rules.specs.Turns.{Coin};
+ghost use Rattle.rules.specs.Runs.{Event};
 
 pub use answers::{Advanced, Announced, Delivered};
 

@@ -8,7 +8,8 @@ use Rattle.protocol.specs.declared.votes.Side.{Side}
 use Rattle.plan.specs.Kinds.{Line}
 use Rattle.memory.specs.Contents.{Held}
 use Rattle.item.specs.Laws.{Faithful}
-use Rattle.rules.specs.Runs.{Event, Coin, Straight, at_opening, one_more, turn_of, Happens}
+use Rattle.rules.specs.Turns.{Coin}
+use Rattle.rules.specs.Runs.{Event, Straight, at_opening, one_more, turn_of, Happens}
 use Rattle.rules.specs.Promises.{Luck, Promises}
 use Rattle.runs.specs.declared.turns.Turn.{Turn}
 use Rattle.runs.specs.Performed.{asked}

@@ -6,8 +6,8 @@ use Rattle.protocol.specs.declared.messages.Message.{Message}
 use Rattle.protocol.specs.declared.refusals.Refusal.{Refusal}
 use Rattle.plan.specs.Kinds.{Line}
 use Rattle.memory.specs.Contents.{Held}
-use Rattle.rules.specs.Turns.{refusal, Refused}
-use Rattle.rules.specs.Runs.{Event, refused, Coin, turn_of, Happens}
+use Rattle.rules.specs.Turns.{refusal, Refused, Coin}
+use Rattle.rules.specs.Runs.{Event, refused, turn_of, Happens}
 use Rattle.runs.specs.Performed.{asked, answer_of, Carried, Performed}
 use Rattle.runs.specs.declared.turns.Turn.{Turn}
 use Rattle.runs.specs.declared.turns.Answer.{Answer}

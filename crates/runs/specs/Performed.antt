@@ -1,9 +1,6 @@
 -- What making one turn does: an event of the rules happens. Assumes nothing.
-use Rattle.std.specs.Prelude.{◌≡◌, ℕ, ◌/◌, List, [], ◌∷◌, Some, Ok, Err, Result}
-use Rattle.protocol.specs.Sending.{to_all}
+use Rattle.std.specs.Prelude.{◌≡◌, ℕ, List, Some, Ok, Err, Result}
 use Rattle.protocol.specs.declared.messages.Message.{Message}
-use Rattle.protocol.specs.declared.messages.Step.TheVariants.{Initial}
-use Rattle.protocol.specs.declared.messages.Subject.TheVariants.{Ballot}
 use Rattle.protocol.specs.declared.refusals.Refusal.{Refusal}
 use Rattle.plan.specs.Kinds.{Line}
 use Rattle.carrier.specs.Posting.{Posts, Exchanges}
@@ -11,8 +8,8 @@ use Rattle.memory.specs.Contents.{Held}
 use Rattle.cases.specs.Steps.{step_at}
 use Rattle.cases.specs.declared.steps.Step.{Step}
 use Rattle.rules.specs.Turns as rules
-use Rattle.rules.specs.Turns.{initials, said, ballots, reacted, replies}
-use Rattle.rules.specs.Runs.{Event, refused, announced, opened, forged, delivered, advanced, Coin, turn_of, Happens}
+use Rattle.rules.specs.Turns.{Coin, announcing, opening, forging, delivering, advancing}
+use Rattle.rules.specs.Runs.{Event, refused, announced, opened, forged, delivered, advanced, turn_of, Happens}
 use Rattle.runs.specs.declared.turns.Turn.{Turn}
 use Rattle.runs.specs.declared.turns.Turn.TheVariants.{Announce, Open, Forge, Deliver, Advance}
 use Rattle.runs.specs.declared.turns.Answer.{Answer}
@@ -39,11 +36,11 @@ module _ {C : Type 0} (posting : C → Message → C → Type 0) (taking : C →
   -- what the carrier says of the messages that an event posts, and of the one that it takes
   abbrev pub Carried : Event → C → C → Type 0
   Carried (refused turn e) before after = Unit {0}
-  Carried (announced i b k posted) before after = Posts posting before (initials line i k b) after
-  Carried (opened i c v posted) before after = Posts posting before (to_all line.plan.n i Initial (Ballot i c 1) v) after
-  Carried (forged m posted) before after = Posts posting before (m ∷ []) after
-  Carried (delivered i pick m posted accepted) before after = Exchanges posting taking before i pick m (replies line.plan.n m (reacted line m h).reaction) after
-  Carried (advanced i c r forced decides reached posted) before after = (s : Step) × (step_at line.plan h i c ≡ Some s) × Posts posting before (ballots line i c r (said s.next (coin i c (r / 3)))) after
+  Carried (announced i b k posted) before after = Posts posting before (announcing line h i k b).sent after
+  Carried (opened i c v posted) before after = Posts posting before (opening line h i c v).sent after
+  Carried (forged m posted) before after = Posts posting before (forging line h m).sent after
+  Carried (delivered i pick m posted accepted) before after = Exchanges posting taking before i pick m (delivering line h m).sent after
+  Carried (advanced i c r forced decides reached posted) before after = (s : Step) × (step_at line.plan h i c ≡ Some s) × Posts posting before (advancing line h coin i c r s).sent after
 
   pub record Performed {I : Type 0} (packed : I → ℕ) (capacity : ℕ) (ws : List Message) (turn : Turn I) (r : Result Answer Refusal) (before : C) (next : Held) (left : List Message) (after : C) : Type 0 where
     pub event : Event

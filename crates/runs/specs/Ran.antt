@@ -8,8 +8,10 @@ use Rattle.protocol.specs.declared.votes.Side.{Side}
 use Rattle.plan.specs.Kinds.{Draft, Line}
 use Rattle.memory.specs.Contents.{Held}
 use Rattle.line.specs.Opening.{Opened, NotOpened}
-use Rattle.rules.specs.Runs.{Event, Coin, Straight, turn_of, Announced, Accepted, Ended, Forced, Decided}
-use Rattle.rules.specs.Promises.{Correct, AtRest, body_at, Promises}
+use Rattle.rules.specs.Turns.{Coin}
+use Rattle.rules.specs.Runs.{Event, Straight, turn_of, Announced, Accepted, Ended, Forced, Decided}
+use Rattle.memory.specs.Places.{body_at}
+use Rattle.rules.specs.Promises.{Correct, AtRest, Promises}
 use Rattle.runs.specs.declared.turns.Turn.{Turn}
 use Rattle.runs.specs.Performed.{asked}
 
@@ -28,7 +30,7 @@ pub record Values {I : Type 0} (ok : I → Type 0) (packed : I → ℕ) (unpacke
   -- Correct processes accept alike.
   pub accepted : (s : Subject) (i j b c : ℕ) → Correct line i → Correct line j → Accepted es i s b → Accepted es j s c → ReadAlike unpacked b c
   -- At rest each of them has the body of a value that one of them announced, and this body is read as that value.
-  pub announced : AtRest line h ws → (i j k : ℕ) (value : I) → ok value → Correct line i → Correct line j → Announced es i k (packed value) → (body_at line h j (Item i k) ≡ Some (packed value)) × (unpacked (packed value) ≡ Some value)
+  pub announced : AtRest line h ws → (i j k : ℕ) (value : I) → ok value → Correct line i → Correct line j → Announced es i k (packed value) → (body_at line.plan h j (Item i k) ≡ Some (packed value)) × (unpacked (packed value) ≡ Some value)
 
 -- The draft was opened as the line over memory h and waiting messages ws; every turn was then made on it and nothing else;
 -- and the promises hold of the run that this was.

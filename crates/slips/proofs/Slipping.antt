@@ -11,11 +11,10 @@ use Rattle.memory.specs.Places.{enough, case_place}
 use Rattle.memory.proofs.Grid.{laid}
 use Rattle.memory.proofs.Sizes.{sizes}
 use Rattle.plan.specs.Plans.{needs_of}
-use Rattle.rules.specs.Turns.{faulty, unless}
+use Rattle.rules.specs.Turns.{faulty, unless, correct_tests}
 use Rattle.memory.specs.declared.records.CaseRecord.{CaseRecord}
 use Rattle.memory.specs.declared.records.Decision.{Decision}
 use Rattle.memory.specs.declared.records.Slip.TheVariants.{Out}
-use Rattle.line.specs.Checks.{correct_tests}
 use Rattle.rules.specs.Promises.{Correct}
 use Rattle.rules.proofs.Theorem.{kept}
 use Rattle.slips.specs.Slips.{releases, decides_release, may_issue, is_out, record_at, with_slip, back_refusal, Truthful}

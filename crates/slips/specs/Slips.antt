@@ -12,9 +12,8 @@ use Rattle.memory.specs.declared.records.CaseRecord.{CaseRecord}
 use Rattle.memory.specs.declared.records.Decision.{Decision}
 use Rattle.memory.specs.declared.records.Slip.{Slip}
 use Rattle.memory.specs.declared.records.Slip.TheVariants.{Absent, Out, HandedOver}
-use Rattle.line.specs.Checks.{process_tests, correct_tests}
-use Rattle.rules.specs.Turns.{unless}
-use Rattle.rules.specs.Runs.{Event, Coin, Run, Decided, Aside}
+use Rattle.rules.specs.Turns.{Coin, unless, process_tests, case_tests}
+use Rattle.rules.specs.Runs.{Event, Run, Decided, Aside}
 use Rattle.slips.specs.declared.slip.ReleaseSlip.{ReleaseSlip}
 
 abbrev pub releases : Side → Bool
@@ -49,7 +48,7 @@ module _ (line : Line) (h : Held) (i c : ℕ) where
 
   -- why issuing is refused, if it is
   abbrev pub issue_refusal : Option Refusal
-  issue_refusal = correct_tests line h i (unless (nat_lt c line.plan.cases) SubjectOutOfPlan (unless (may_issue record_at) SlipRefused None))
+  issue_refusal = case_tests line h i c (unless (may_issue record_at) SlipRefused None)
 
   -- why giving back is refused, if it is: a faulty process is not asked for its role
   abbrev pub back_refusal : Option Refusal

@@ -7,9 +7,9 @@ use Rattle.std.proofs.lemmas.List.Sums.{sum_by-cons}
 use Rattle.std.proofs.lemmas.Option.{none-some}
 use Rattle.std.proofs.lemmas.Bool.{eqb-true, false≢true, cond-true, lt-ltb, cases_lt}
 use Rattle.protocol.specs.declared.messages.Message.{Message}
-use Rattle.protocol.specs.Bags.{count, Same}
+use Rattle.protocol.specs.Bags.{count, Same, addressed, waiting_for}
 use Rattle.protocol.proofs.Bags.{count_none, count_cons, count_append, same_length}
-use Rattle.carrier.specs.Waiting.{addressed, waiting_for, Added, Removed}
+use Rattle.carrier.specs.Waiting.{Added, Removed}
 use Rattle.tray.specs.Layers.{kept_le}
 use Rattle.tray.specs.Tables.{in_place, is_free, is_for, messages, kept}
 

@@ -2,9 +2,9 @@
 use Rattle.std.proofs.Common.{◌≡◌, ℕ, ◌+◌, ◌≤◌, List, ◌++◌, length, Ok, Err, Result, ap, arith, length-append}
 use Rattle.protocol.specs.declared.messages.Message.{Message}
 use Rattle.protocol.specs.declared.refusals.Refusal.{Refusal}
-use Rattle.protocol.specs.Bags.{count}
+use Rattle.protocol.specs.Bags.{count, addressed, waiting_for}
 use Rattle.protocol.proofs.Bags.{count_cons, count_append}
-use Rattle.carrier.specs.Waiting.{addressed, waiting_for, Posted, Added, Taken, Removed}
+use Rattle.carrier.specs.Waiting.{Posted, Added, Taken, Removed}
 
 -- the own messages changed
 module _ (own new below : List Message) (m : Message) where

@@ -1,7 +1,7 @@
 -- The messages in the places of a table. Assumes nothing.
 use Rattle.std.specs.Prelude.{ℕ, Bool, false, not, List, [], ◌∷◌, ◌++◌, take, is_some, Some, None, Option}
 use Rattle.protocol.specs.declared.messages.Message.{Message}
-use Rattle.carrier.specs.Waiting.{addressed}
+use Rattle.protocol.specs.Bags.{addressed}
 
 abbrev pub in_place : Option Message → List Message
 in_place None = []

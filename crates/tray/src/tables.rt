@@ -1,7 +1,8 @@
 // The messages that a tray keeps itself: putting them into the places of a table and taking them out.
 ghost use Rattle.std.specs.Prelude.{◌≡◌, ◌-◌, [], length};
 ghost use Rattle.std.specs.List.{position};
-ghost use Rattle.carrier.specs.Waiting.{waiting_for, Posted, Taken};
+ghost use Rattle.carrier.specs.Waiting.{Posted, Taken};
+ghost use Rattle.protocol.specs.Bags.{waiting_for};
 ghost use Rattle.tray.specs.Tables.{kept, is_for, is_free};
 
 use protocol::{Message, Refusal};

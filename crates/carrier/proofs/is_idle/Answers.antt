@@ -3,7 +3,8 @@ use Rattle.std.proofs.lemmas.Bool.{eqb-true}
 use Rattle.std.proofs.lemmas.Iterator.{YieldsList-from_range}
 use Rattle.std.proofs.lemmas.Iterator.Search.{all_from_yields_List}
 use Rattle.std.proofs.lemmas.List.{nil_from_length}
-use Rattle.carrier.specs.Waiting.{capped, waiting_for}
+use Rattle.carrier.specs.Waiting.{capped}
+use Rattle.protocol.specs.Bags.{waiting_for}
 use Rattle.carrier.proofs.Counts.{none_waits}
 use Rattle.carrier.proofs.is_idle.Goals as goal
 

@@ -3,7 +3,7 @@ use Rattle.protocol.specs.declared.messages.Subject.{Subject}
 use Rattle.memory.specs.Contents.{held, case_at, with_case}
 use Rattle.memory.specs.declared.records.CaseRecord.{CaseRecord}
 use Rattle.cases.specs.Steps.{step_at, round_at}
-use Rattle.rules.specs.Turns.{said, settled}
+use Rattle.rules.specs.Turns.{said, decision_after}
 use Rattle.line.specs.Checks.{spacious}
 use Rattle.line.specs.Sent.{Sent, subject_after}
 use Rattle.line.proofs.Voting.{some_place, may_go_on, ballots_are}
@@ -29,7 +29,7 @@ returns-clause-turn g c =
     let next = c.subject_after-next.ensures in
     let sends = ballots_are line i k from _ _ _ next ballot in
     let sent = subst (λ ms. Sent carrier.waiting carrier.capacity carrier.posting c.args.carrier.now ms c.send_next-posted.new.carrier) sends c.send_next-posted.ensures.sent in
-    let written = λ (at r : ℕ) (x : CaseRecord). with_case at (record { round = r + 1; decision = settled x.decision step.decides (r / 3); slip = x.slip }) h in
+    let written = λ (at r : ℕ) (x : CaseRecord). with_case at (record { round = r + 1; decision = decision_after x.decision step.decides (r / 3); slip = x.slip }) h in
     record {
       round = from;
       forced = step.forced;

@@ -4,7 +4,7 @@ use Rattle.protocol.specs.declared.refusals.Refusal.{Refusal}
 use Rattle.protocol.specs.declared.votes.Side.{Side}
 use Rattle.plan.specs.Kinds.{Draft, Line}
 use Rattle.memory.specs.Contents.{Held}
-use Rattle.rules.specs.Runs.{Coin}
+use Rattle.rules.specs.Turns.{Coin}
 use Rattle.runs.specs.declared.turns.Turn.{Turn}
 use Rattle.runs.specs.Ran.{Ran, Shared, RanShared}
 use Rattle.runs.proofs.Leading.{shared_luck}

@@ -2,9 +2,8 @@ use Rattle.std.proofs.Common.{rules, ◌≡◌, cond, sym, ◌∙◌}
 use Rattle.std.specs.List.{count_by}
 use Rattle.std.proofs.iter.runs.Made.{chains}
 use Rattle.std.proofs.lemmas.List.Recursion.{is_sum_by}
-use Rattle.protocol.specs.Bags.{count}
+use Rattle.protocol.specs.Bags.{count, addressed}
 use Rattle.protocol.proofs.Bags.{count_none, count_cons}
-use Rattle.carrier.specs.Waiting.{addressed}
 use Rattle.row.specs.Order.{listed}
 use Rattle.row.proofs.rows.Row.count_for.Goals as goal
 

@@ -2,7 +2,7 @@ use Rattle.std.proofs.Common.{rules, ◌≡◌, None, Some, Err, sym, ap, ◌∙
 use Rattle.std.specs.List.{position}
 use Rattle.std.proofs.lemmas.List.Quantifiers.{position-Some}
 use Rattle.protocol.specs.declared.refusals.Refusal.TheVariants.{NothingWaiting}
-use Rattle.carrier.specs.Waiting.{waiting_for}
+use Rattle.protocol.specs.Bags.{waiting_for}
 use Rattle.tray.specs.Tables.{is_for}
 use Rattle.tray.proofs.Kept.{kept_all, count_for, none_counted, held, taken}
 use Rattle.tray.proofs.tables.Table.take.Goals as goal

@@ -1,7 +1,7 @@
 use Rattle.std.proofs.Common.{rules, ◌≡◌, ap, ◌∙◌, sym, arith}
 use Rattle.std.specs.List.{count_by}
 use Rattle.std.proofs.iter.runs.Made.{chains}
-use Rattle.carrier.specs.Waiting.{waiting_for}
+use Rattle.protocol.specs.Bags.{waiting_for}
 use Rattle.tray.specs.Tables.{is_for}
 use Rattle.tray.proofs.Kept.{kept_all, count_for}
 use Rattle.tray.proofs.tables.Table.waiting_for.Goals as goal

@@ -1,6 +1,6 @@
 use Rattle.std.proofs.Common.{arith}
 use Rattle.protocol.proofs.Bags.{count_append}
-use Rattle.carrier.specs.Waiting.{addressed}
+use Rattle.protocol.specs.Bags.{addressed}
 use Rattle.tray.specs.Tables.{kept}
 use Rattle.tray.proofs.trays.TrayCarrier.waiting_for.Goals as goal
 
