@@ -1,8 +1,7 @@
 -- What holds of broadcasts in every state of a run.
-use Rattle.std.specs.Prelude.{◌≡◌, ℕ, ◌≤◌, Bool, true, false, is_some, Some, Option, nat_le}
+use Rattle.std.specs.Prelude.{◌≡◌, ℕ, ◌≤◌, Bool, false, Some, Option}
 use Rattle.protocol.specs.declared.messages.Subject.{Subject}
 use Rattle.protocol.specs.declared.messages.Subject.TheVariants.{Item}
-use Rattle.protocol.specs.Bags.{count}
 use Rattle.protocol.specs.Counting.{below}
 use Rattle.protocol.specs.Faults.{QuietOf}
 use Rattle.protocol.specs.Messages.{originator_of}
@@ -25,11 +24,6 @@ pub record Broadcasts (w : World) (st : State) : Type 0 where
   -- Once nothing waits for them, what one accepted all did, and what a correct originator told.
   pub totality : Quiet w st → (s : Subject) (i j b : ℕ) → Correct w i → Correct w j → accepted_at st i s ≡ Some b → accepted_at st j s ≡ Some b
   pub delivery : Quiet w st → (s : Subject) (j b : ℕ) → Correct w (originator_of s) → Correct w j → st.said s ≡ Some b → accepted_at st j s ≡ Some b
-  -- A process that accepted sent ready, and one that sent ready echoed.
-  pub ready_first : (s : Subject) (i : ℕ) → Correct w i → is_some (accepted_at st i s) ≡ true → is_some (st.recs i s).readied ≡ true
-  pub echo_first : (s : Subject) (i : ℕ) → Correct w i → is_some (st.recs i s).readied ≡ true → is_some (st.recs i s).echoed ≡ true
-  -- Every message on its way comes from a process below n.
-  pub no_stranger : count (λ m. nat_le w.n m.sender) st.waiting ≡ 0
 
 -- in every world that meets the facts, whatever the processes weigh
 abbrev pub Weighed : Type 0

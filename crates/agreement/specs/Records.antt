@@ -1,4 +1,5 @@
--- What a process keeps of one broadcast, and what an arriving message makes of it.
+-- What a process keeps of one broadcast, and what an arriving message makes of it: the rule of stage and step again, by which
+-- bodies were sent. That code and machine do the same is shown with the rules of turns.
 use Rattle.std.specs.Prelude.{ℕ, Bool, false, cond, Some, None, Option, ◌==◌, nat_le}
 use Rattle.protocol.specs.Heard.{has}
 use Rattle.protocol.specs.declared.messages.Step.{Step}
@@ -45,20 +46,20 @@ receive w o Initial k b r =
     }
 receive w o Echo k b r =
     let heard = hear r.echo k b in
-    let quorum = nat_le w.echo (support w heard b) in
+    let enough = nat_le w.echo (support w heard b) in
     record {
-      echoed = when quorum r.echoed b;
-      readied = when quorum r.readied b;
+      echoed = when enough r.echoed b;
+      readied = when enough r.readied b;
       accepted = r.accepted;
       echo = heard;
       ready = r.ready;
     }
 receive w o Ready k b r =
     let heard = hear r.ready k b in
-    let quorum = nat_le w.ready (support w heard b) in
+    let enough = nat_le w.ready (support w heard b) in
     record {
-      echoed = when quorum r.echoed b;
-      readied = when quorum r.readied b;
+      echoed = when enough r.echoed b;
+      readied = when enough r.readied b;
       accepted = when (nat_le w.accept (support w heard b)) r.accepted b;
       echo = r.echo;
       ready = heard;

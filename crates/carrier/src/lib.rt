@@ -2,7 +2,7 @@
 // capacity alone.
 #![tactic(auto)]
 
-ghost use Rattle.std.specs.Prelude.{◌≡◌, ℕ, ◌≤◌, true, List, [], length, IfOk, OnOk, ◌==◌};
+ghost use Rattle.std.specs.Prelude.{◌≡◌, ℕ, ◌≤◌, List, length, IfOk, OnOk, ◌==◌};
 ghost use Rattle.protocol.specs.declared.messages.Message.{Message};
 ghost use Rattle.carrier.specs.Waiting.{capped, free_in, Posted, Taken};
 ghost use Rattle.protocol.specs.Bags.{waiting_for};
@@ -49,8 +49,7 @@ pub trait Carrier {
 
 // Whether no message waits, for whichever process.
 pub fn is_idle<C: Carrier>(carrier: &C) -> bool
-    ensures value { result ≡ (length (C.waiting carrier.now) == 0) }
-    ensures none { result ≡ true → C.waiting carrier.now ≡ [] }
+    ensures { result ≡ (length (C.waiting carrier.now) == 0) }
 {
     (0..PROCESSES).all(|process| carrier.waiting_for(process) == 0)
 }

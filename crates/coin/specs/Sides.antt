@@ -31,6 +31,6 @@ dealer_side bytes phases case phase = row_side bytes case phases phase
 abbrev pub word_side : ℕ → ℕ → ℕ → Side
 word_side word case phase = from_one phase (λ k. side_of (word / 2 ^ ((16 * case + k) % 64)))
 
--- every process is shown the same side
-abbrev pub Alike : (ℕ → ℕ → ℕ → Side) → Type 0
-Alike shows = (i j case phase : ℕ) → shows i case phase ≡ shows j case phase
+-- every process is shown this side
+abbrev pub Shared : (ℕ → ℕ → ℕ → Side) → (ℕ → ℕ → Side) → Type 0
+Shared shows side = (process case phase : ℕ) → shows process case phase ≡ side case phase

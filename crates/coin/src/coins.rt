@@ -1,7 +1,7 @@
 // What it takes to be tossed.
 ghost use Rattle.std.specs.Prelude.{◌≡◌, ℕ};
 ghost use Rattle.protocol.specs.declared.votes.Side.{Side as CoinSide};
-ghost use Rattle.coin.specs.Sides.{Alike};
+ghost use Rattle.coin.specs.Sides.{Shared};
 
 use protocol::Side;
 
@@ -22,8 +22,7 @@ pub trait SharedCoin: Coin {
 
     fn toss_for_all(&self, case: u8, phase: u8) -> Side
         ensures value { result ≡ side self.now case phase }
-        ensures answer { (process : ℕ) → result ≡ Self.Coin.shows self.now process case phase }
-        ensures alike { Alike (Self.Coin.shows self.now) };
+        ensures answer { (process : ℕ) → result ≡ Self.Coin.shows self.now process case phase };
 
-    ghost shared: { (x : Self) (process case phase : ℕ) → Self.Coin.shows x process case phase ≡ side x case phase };
+    ghost shared: { (x : Self) → Shared (Self.Coin.shows x) (side x) };
 }

@@ -26,15 +26,15 @@ impl<C: Carrier> Watch<C> {
 }
 
 impl<C: Carrier> Carrier for Watch<C> {
-    ghost waiting = { λ x. C.Carrier.waiting x.below };
+    ghost waiting = { λ x. C.waiting x.below };
 
-    ghost capacity = { λ x. C.Carrier.capacity x.below };
+    ghost capacity = { λ x. C.capacity x.below };
 
-    ghost fits = { λ x. C.Carrier.fits x.below };
+    ghost fits = { λ x. C.fits x.below };
 
-    ghost posting = { λ x m y. C.Carrier.posting x.below m y.below };
+    ghost posting = { λ x m y. C.posting x.below m y.below };
 
-    ghost taking = { λ x process pick m y. (C.Carrier.taking x.below process pick m y.below) × (y.last ≡ Some m) };
+    ghost taking = { λ x process pick m y. (C.taking x.below process pick m y.below) × (y.last ≡ Some m) };
 
     fn free(&self) -> u32 {
         self.below.free()

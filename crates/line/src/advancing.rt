@@ -27,8 +27,8 @@ pub fn advance<C: Carrier, K: Coin>(
     process: u64,
     case: u64,
 ) -> Result<Advanced, Refusal>
-    ensures turn { Advancement line.now (C.Carrier.capacity carrier.old) (held memory.old) (C.Carrier.waiting carrier.old) C.Carrier.posting C.Carrier.taking (K.Coin.shows coin.now) process case result carrier.old (held memory.new) (C.Carrier.waiting carrier.new) carrier.new }
-    ensures kept { C.Carrier.capacity carrier.new ≡ C.Carrier.capacity carrier.old }
+    ensures turn { Advancement line.now (C.capacity carrier.old) (held memory.old) (C.waiting carrier.old) C.posting C.taking (K.shows coin.now) process case result carrier.old (held memory.new) (C.waiting carrier.new) carrier.new }
+    ensures kept { C.capacity carrier.new ≡ C.capacity carrier.old }
 {
     check_correct(line, memory, process)?;
     let at = find_case(line, process, case)?;
@@ -66,7 +66,7 @@ fn check_room_for_next<C: Carrier>(
     carrier: &C,
     next: Option<Subject>,
 ) -> Result<(), Refusal>
-    ensures { Spacious result line.now next (C.Carrier.capacity carrier.now) (C.Carrier.waiting carrier.now) }
+    ensures { Spacious result line.now next (C.capacity carrier.now) (C.waiting carrier.now) }
 {
     if next.is_some() {
         check_room_for_all(line, carrier)?;
@@ -91,7 +91,7 @@ fn moved(record: CaseRecord, decides: Option<Side>, phase: u8) -> CaseRecord
 
 // The ballot that the step says, or a vote for the side that the coin shows.
 fn said<K: Coin>(next: Option<Ballot>, coin: &K, process: u8, case: u8, phase: u8) -> Ballot
-    ensures { result ≡ said next (K.Coin.shows coin.now process case phase) }
+    ensures { result ≡ said next (K.shows coin.now process case phase) }
 {
     next.unwrap_or_else(|| Ballot::vote(coin.toss(process, case, phase)))
 }
@@ -99,8 +99,8 @@ fn said<K: Coin>(next: Option<Ballot>, coin: &K, process: u8, case: u8, phase: u
 // Sends the next ballot, if there is one. No `map_or`, since a proof does not see there what the closure posts.
 fn send_next<C: Carrier>(line: &Line, carrier: &mut C, next: Option<Subject>, ballot: Ballot) -> u64
     requires sender { IfSome next (λ s. originator_of s < 16) }
-    requires room { spacious line.now next (C.Carrier.capacity carrier.old) (C.Carrier.waiting carrier.old) ≡ true }
-    ensures sent { Sent C.Carrier.waiting C.Carrier.capacity C.Carrier.posting carrier.old (sent_for line.now next ballot) carrier.new }
+    requires room { spacious line.now next (C.capacity carrier.old) (C.waiting carrier.old) ≡ true }
+    ensures sent { Sent C.waiting C.capacity C.posting carrier.old (sent_for line.now next ballot) carrier.new }
     ensures count { result ≡ length (sent_for line.now next ballot) }
 {
     match next {

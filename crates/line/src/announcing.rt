@@ -1,5 +1,5 @@
 // Announcing an item.
-ghost use Rattle.std.specs.Prelude.{◌≡◌, IfOk};
+ghost use Rattle.std.specs.Prelude.{◌≡◌, IfOk, OnOk};
 ghost use Rattle.carrier.specs.Posting.{Posts};
 ghost use Rattle.memory.specs.Contents.{held};
 ghost use Rattle.rules.specs.Turns.{initials};
@@ -23,9 +23,10 @@ pub fn announce<C: Carrier, I: Item>(
     process: u64,
     value: &I,
 ) -> Result<Announced, Refusal>
-    ensures turn { Announcement line.now (C.Carrier.capacity carrier.old) (held memory.old) (C.Carrier.waiting carrier.old) process (I.Item.packed value.now) result (held memory.new) (C.Carrier.waiting carrier.new) }
-    ensures kept { C.Carrier.capacity carrier.new ≡ C.Carrier.capacity carrier.old }
-    ensures order { IfOk result (λ a. Posts C.Carrier.posting carrier.old (initials line.now process a.serial (I.Item.packed value.now)) carrier.new) }
+    ensures turn { Announcement line.now (C.capacity carrier.old) (held memory.old) (C.waiting carrier.old) process (I.packed value.now) result (held memory.new) (C.waiting carrier.new) }
+    ensures kept { C.capacity carrier.new ≡ C.capacity carrier.old }
+    ensures fits { OnOk result (I.ok value.now) }
+    ensures order { IfOk result (λ a. Posts C.posting carrier.old (initials line.now process a.serial (I.packed value.now)) carrier.new) }
 {
     check_correct(line, memory, process)?;
     let next = memory.next_serial(process as usize);

@@ -22,9 +22,9 @@ pub fn open_case<C: Carrier>(
     case: u64,
     vote: u64,
 ) -> Result<u64, Refusal>
-    ensures turn { CaseOpening line.now (C.Carrier.capacity carrier.old) (held memory.old) (C.Carrier.waiting carrier.old) process case vote result (held memory.new) (C.Carrier.waiting carrier.new) }
-    ensures kept { C.Carrier.capacity carrier.new ≡ C.Carrier.capacity carrier.old }
-    ensures order { OnOk result (Posts C.Carrier.posting carrier.old (first_ballots line.now process case vote) carrier.new) }
+    ensures turn { CaseOpening line.now (C.capacity carrier.old) (held memory.old) (C.waiting carrier.old) process case vote result (held memory.new) (C.waiting carrier.new) }
+    ensures kept { C.capacity carrier.new ≡ C.capacity carrier.old }
+    ensures order { OnOk result (Posts C.posting carrier.old (first_ballots line.now process case vote) carrier.new) }
 {
     check_correct(line, memory, process)?;
     let at = find_case(line, process, case)?;

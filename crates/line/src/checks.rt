@@ -48,7 +48,7 @@ pub fn find_case(line: &Line, process: u64, case: u64) -> Result<usize, Refusal>
 
 // Refused where the carrier has no room for a message to each process.
 pub(crate) fn check_room_for_all<C: Carrier>(line: &Line, carrier: &C) -> Result<(), Refusal>
-    ensures { RoomForAll result line.now (C.Carrier.capacity carrier.now) (C.Carrier.waiting carrier.now) }
+    ensures { RoomForAll result line.now (C.capacity carrier.now) (C.waiting carrier.now) }
 {
     if u64::from(carrier.free()) < line.plan().n() {
         return Err(Refusal::NoRoom);

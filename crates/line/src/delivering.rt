@@ -23,8 +23,8 @@ pub fn deliver<C: Carrier>(
     process: u64,
     pick: u64,
 ) -> Result<Delivered, Refusal>
-    ensures turn { Delivery line.now (C.Carrier.capacity carrier.old) (held memory.old) (C.Carrier.waiting carrier.old) C.Carrier.posting C.Carrier.taking process pick result carrier.old (held memory.new) (C.Carrier.waiting carrier.new) carrier.new }
-    ensures kept { C.Carrier.capacity carrier.new ≡ C.Carrier.capacity carrier.old }
+    ensures turn { Delivery line.now (C.capacity carrier.old) (held memory.old) (C.waiting carrier.old) C.posting C.taking process pick result carrier.old (held memory.new) (C.waiting carrier.new) carrier.new }
+    ensures kept { C.capacity carrier.new ≡ C.capacity carrier.old }
 {
     check_process(line, memory, process)?;
     check_room_for_replies(line, carrier, process)?;
@@ -45,7 +45,7 @@ pub fn deliver<C: Carrier>(
 
 // A correct process may have to send to all twice. Only where room for that is missing is it asked whether a message waits at all.
 fn check_room_for_replies<C: Carrier>(line: &Line, carrier: &C, process: u64) -> Result<(), Refusal>
-    ensures { Roomy result line.now process (C.Carrier.capacity carrier.now) (C.Carrier.waiting carrier.now) }
+    ensures { Roomy result line.now process (C.capacity carrier.now) (C.waiting carrier.now) }
 {
     if line.is_faulty(process) || u64::from(carrier.free()) >= 2 * line.plan().n() {
         return Ok(());
@@ -58,8 +58,8 @@ fn check_room_for_replies<C: Carrier>(line: &Line, carrier: &C, process: u64) ->
 
 // Sends what the reaction says, and answers how many messages these are.
 fn reply<C: Carrier>(line: &Line, carrier: &mut C, message: &Message, reaction: Reaction) -> u64
-    requires { HasRoom (2 * line.now.plan.n) (C.Carrier.capacity carrier.old) (C.Carrier.waiting carrier.old) }
-    ensures sent { Sent C.Carrier.waiting C.Carrier.capacity C.Carrier.posting carrier.old (replies line.now.plan.n message.now reaction) carrier.new }
+    requires { HasRoom (2 * line.now.plan.n) (C.capacity carrier.old) (C.waiting carrier.old) }
+    ensures sent { Sent C.waiting C.capacity C.posting carrier.old (replies line.now.plan.n message.now reaction) carrier.new }
     ensures count { result ≡ length (replies line.now.plan.n message.now reaction) }
 {
     let mut posted = 0;

@@ -17,9 +17,9 @@ pub fn forge<C: Carrier>(
     carrier: &mut C,
     message: Message,
 ) -> Result<u64, Refusal>
-    ensures turn { Forgery line.now (C.Carrier.capacity carrier.old) (held memory.now) (C.Carrier.waiting carrier.old) message result (held memory.now) (C.Carrier.waiting carrier.new) }
-    ensures kept { C.Carrier.capacity carrier.new ≡ C.Carrier.capacity carrier.old }
-    ensures order { OnOk result (Posts C.Carrier.posting carrier.old (message ∷ []) carrier.new) }
+    ensures turn { Forgery line.now (C.capacity carrier.old) (held memory.now) (C.waiting carrier.old) message result (held memory.now) (C.waiting carrier.new) }
+    ensures kept { C.capacity carrier.new ≡ C.capacity carrier.old }
+    ensures order { OnOk result (Posts C.posting carrier.old (message ∷ []) carrier.new) }
 {
     let plan = line.plan();
     check_process(line, memory, message.sender())?;

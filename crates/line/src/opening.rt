@@ -1,6 +1,6 @@
 // Opening a line.
 ghost use Rattle.memory.specs.Contents.{held};
-ghost use Rattle.line.specs.Opening.{Opens, Promised};
+ghost use Rattle.line.specs.Opening.{OpensLine, Promised};
 
 use carrier::{Carrier, is_idle};
 use memory::Memory;
@@ -14,8 +14,8 @@ pub fn open_line<C: Carrier>(
     memory: &mut Memory,
     carrier: &C,
 ) -> Result<Line, (Refusal, Draft)>
-    ensures answer { Opens draft (held memory.old) (C.Carrier.waiting carrier.now) result (held memory.new) }
-    ensures promise { Promised (C.Carrier.capacity carrier.now) result (held memory.new) }
+    ensures answer { OpensLine draft (held memory.old) (C.waiting carrier.now) result (held memory.new) }
+    ensures promise { Promised (C.capacity carrier.now) result (held memory.new) }
 {
     let plan = draft.plan();
     if !memory.is_enough(&plan) {

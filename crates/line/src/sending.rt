@@ -17,8 +17,8 @@ pub(crate) fn send_initials<C: Carrier>(
     body: u64,
 ) -> u64
     requires sender { originator_of subject < 16 }
-    requires room { HasRoom line.now.plan.n (C.Carrier.capacity carrier.old) (C.Carrier.waiting carrier.old) }
-    ensures sent { Sent C.Carrier.waiting C.Carrier.capacity C.Carrier.posting carrier.old (to_all line.now.plan.n (originator_of subject) Initial subject body) carrier.new }
+    requires room { HasRoom line.now.plan.n (C.capacity carrier.old) (C.waiting carrier.old) }
+    ensures sent { Sent C.waiting C.capacity C.posting carrier.old (to_all line.now.plan.n (originator_of subject) Initial subject body) carrier.new }
     ensures count { result ≡ length (to_all line.now.plan.n (originator_of subject) Initial subject body) }
 {
     let sender = subject.originator();
@@ -32,8 +32,8 @@ pub(crate) fn pass_on<C: Carrier>(
     message: &Message,
     step: Step,
 ) -> u64
-    requires room { HasRoom line.now.plan.n (C.Carrier.capacity carrier.old) (C.Carrier.waiting carrier.old) }
-    ensures sent { Sent C.Carrier.waiting C.Carrier.capacity C.Carrier.posting carrier.old (to_all line.now.plan.n message.now.addressee step message.now.subject message.now.body) carrier.new }
+    requires room { HasRoom line.now.plan.n (C.capacity carrier.old) (C.waiting carrier.old) }
+    ensures sent { Sent C.waiting C.capacity C.posting carrier.old (to_all line.now.plan.n message.now.addressee step message.now.subject message.now.body) carrier.new }
     ensures count { result ≡ length (to_all line.now.plan.n message.now.addressee step message.now.subject message.now.body) }
 {
     send_to_all(
@@ -57,8 +57,8 @@ fn send_to_all<C: Carrier>(
     body: u64,
 ) -> u64
     requires sender { sender < 16 }
-    requires room { HasRoom line.now.plan.n (C.Carrier.capacity carrier.old) (C.Carrier.waiting carrier.old) }
-    ensures sent { Sent C.Carrier.waiting C.Carrier.capacity C.Carrier.posting carrier.old (to_all line.now.plan.n sender step subject body) carrier.new }
+    requires room { HasRoom line.now.plan.n (C.capacity carrier.old) (C.waiting carrier.old) }
+    ensures sent { Sent C.waiting C.capacity C.posting carrier.old (to_all line.now.plan.n sender step subject body) carrier.new }
     ensures count { result ≡ length (to_all line.now.plan.n sender step subject body) }
 {
     let n = line.plan().n();

@@ -22,8 +22,8 @@ pub fn read<I: Item>(
     process: u64,
     subject: Subject,
 ) -> Result<Reading<I>, Refusal>
-    ensures value { result ≡ answer I.Item.unpacked line.now (held memory.now) process subject }
-    ensures alike { Alike I.Item.unpacked line.now (held memory.now) process subject result }
+    ensures value { result ≡ answer I.unpacked line.now (held memory.now) process subject }
+    ensures alike { Alike I.unpacked line.now (held memory.now) process subject result }
 {
     let at = locate(line, memory, process, subject)?;
     let Some(body) = memory.stage(at).accepted() else {

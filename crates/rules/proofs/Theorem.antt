@@ -30,7 +30,7 @@ use Rattle.ballots.proofs.Reading.{ballot_within, covered}
 use Rattle.cases.specs.Steps.{round_at, may_advance, step_at, chosen}
 use Rattle.cases.proofs.Going.{law}
 use Rattle.rules.specs.Turns.{faulty, Coin}
-use Rattle.rules.specs.Runs.{Event, Run, begun, after, aside, Straight, at_opening, one_more, Told, Advancing, Opened, Ended, Forced, Decided}
+use Rattle.rules.specs.Runs.{Event, Run, begun, after, aside, Told, Advancing, Opened, Ended, Forced, Decided}
 use Rattle.rules.specs.Promises.{Correct, Quiet, Stuck, AtRest, Luck, Promises, Kept}
 use Rattle.rules.proofs.Stages.{shown_accepted}
 use Rattle.rules.proofs.Records.{world_of}
@@ -254,11 +254,6 @@ module _ (line : Line) where
       };
       counted = λ i c ci below. (stuck c below i ci, waits c below i ci);
     }
-
--- turns with nothing between them are a run
-pub straight : (line : Line) (capacity : ℕ) (coin : Coin) (begin : Held) → Run line capacity coin [] begin [] → (es : List Event) (h : Held) (ws : List Message) → Straight line capacity coin begin es h ws → Run line capacity coin es h ws
-straight line capacity coin begin run _ _ _ at_opening = run
-straight line capacity coin begin run _ _ _ (one_more {es} {h} {next} {ws} {left} before e happens) = after (straight line capacity coin begin run es h ws before) e happens
 
 pub kept : (line : Line) (capacity : ℕ) (coin : Coin) → Kept line capacity coin
 kept line capacity coin es h ws run = let a = along line capacity coin es h ws run in promises line coin es h ws a.0 a.1 a.2

@@ -89,11 +89,6 @@ pub data Run (line : Line) (capacity : ℕ) (coin : Coin) : List Event → Held 
   after : {es : List Event} {h next : Held} {ws left : List Message} → Run line capacity coin es h ws → (e : Event) → Happens line capacity h ws coin e next left → Run line capacity coin (e ∷ es) next left
   aside : {es : List Event} {h next : Held} {ws : List Message} → Run line capacity coin es h ws → Aside h next → Run line capacity coin es next ws
 
--- turns one after another, from memory `start` and with nothing waiting; nothing stands between them
-pub data Straight (line : Line) (capacity : ℕ) (coin : Coin) (start : Held) : List Event → Held → List Message → Type 0 where
-  at_opening : Straight line capacity coin start [] start []
-  one_more : {es : List Event} {h next : Held} {ws left : List Message} → Straight line capacity coin start es h ws → (e : Event) → Happens line capacity h ws coin e next left → Straight line capacity coin start (e ∷ es) next left
-
 -- some event tells it
 abbrev pub Told : (Event → Type 0) → List Event → Type 0
 Told P [] = ⊥

@@ -75,8 +75,8 @@ refusal line capacity h ws (Open i c v) =
     case_tests line h i c
     (unless (nat_le v 1) ValueOutOfRange (unless (round_at line.plan h i c == 0) CaseAlreadyOpened (room_test line.plan.n capacity ws)))
 refusal line capacity h ws (Forge m) =
-    unless (enough line.plan h) MemoryTooSmall
-    (unless (nat_lt m.sender line.plan.n && nat_lt m.addressee line.plan.n) ProcessOutOfRange
+    process_tests line h m.sender
+    (unless (nat_lt m.addressee line.plan.n) ProcessOutOfRange
     (unless (faulty line m.sender) WrongRole (unless (within line.plan m.subject) SubjectOutOfPlan (room_test 1 capacity ws))))
 refusal line capacity h ws (Deliver i pick) = process_tests line h i (delivery_tests line i capacity ws)
 refusal line capacity h ws (Advance i c) =

@@ -1,5 +1,5 @@
 -- What making one turn does: an event of the rules happens. Assumes nothing.
-use Rattle.std.specs.Prelude.{◌≡◌, ℕ, List, Some, Ok, Err, Result}
+use Rattle.std.specs.Prelude.{◌≡◌, ℕ, List, Some, Ok, Err, Result, OnOk}
 use Rattle.protocol.specs.declared.messages.Message.{Message}
 use Rattle.protocol.specs.declared.refusals.Refusal.{Refusal}
 use Rattle.plan.specs.Kinds.{Line}
@@ -23,6 +23,14 @@ asked packed (Forge m) = rules.Forge m
 asked packed (Deliver i pick) = rules.Deliver i pick
 asked packed (Advance i c) = rules.Advance i c
 
+-- a value that was announced is one that packs
+abbrev pub Fits : {I : Type 0} → (I → Type 0) → Turn I → Result Answer Refusal → Type 0
+Fits ok (Announce i value) r = OnOk r (ok value)
+Fits ok (Open i c v) r = Unit {0}
+Fits ok (Forge m) r = Unit {0}
+Fits ok (Deliver i pick) r = Unit {0}
+Fits ok (Advance i c) r = Unit {0}
+
 -- what an event answers
 abbrev pub answer_of : Event → Result Answer Refusal
 answer_of (refused turn e) = Err e
@@ -32,7 +40,7 @@ answer_of (forged m posted) = Ok (Posted posted)
 answer_of (delivered i pick m posted accepted) = Ok (Delivered (record { posted = posted; accepted = accepted }))
 answer_of (advanced i c r forced decides reached posted) = Ok (Advanced (record { round = reached; posted = posted }))
 
-module _ {C : Type 0} (posting : C → Message → C → Type 0) (taking : C → ℕ → ℕ → Message → C → Type 0) (line : Line) (coin : Coin) (h : Held) where
+module _ {C : Type 0} (waiting : C → List Message) (posting : C → Message → C → Type 0) (taking : C → ℕ → ℕ → Message → C → Type 0) (line : Line) (coin : Coin) (h : Held) where
   -- what the carrier says of the messages that an event posts, and of the one that it takes
   abbrev pub Carried : Event → C → C → Type 0
   Carried (refused turn e) before after = Unit {0}
@@ -42,9 +50,15 @@ module _ {C : Type 0} (posting : C → Message → C → Type 0) (taking : C →
   Carried (delivered i pick m posted accepted) before after = Exchanges posting taking before i pick m (delivering line h m).sent after
   Carried (advanced i c r forced decides reached posted) before after = (s : Step) × (step_at line.plan h i c ≡ Some s) × Posts posting before (advancing line h coin i c r s).sent after
 
-  pub record Performed {I : Type 0} (packed : I → ℕ) (capacity : ℕ) (ws : List Message) (turn : Turn I) (r : Result Answer Refusal) (before : C) (next : Held) (left : List Message) (after : C) : Type 0 where
+  -- the event happens, to memory and to the carrier
+  pub record Occurs (capacity : ℕ) (e : Event) (before : C) (next : Held) (after : C) : Type 0 where
+    pub happens : Happens line capacity h (waiting before) coin e next (waiting after)
+    pub carried : Carried e before after
+
+  -- The turn answers what an event of it answers that occurs.
+  pub record Performed {I : Type 0} (ok : I → Type 0) (packed : I → ℕ) (capacity : ℕ) (turn : Turn I) (r : Result Answer Refusal) (before : C) (next : Held) (after : C) : Type 0 where
     pub event : Event
     pub told : turn_of event ≡ asked packed turn
     pub answer : r ≡ answer_of event
-    pub happens : Happens line capacity h ws coin event next left
-    pub carried : Carried event before after
+    pub occurs : Occurs capacity event before next after
+    pub fits : Fits ok turn r

@@ -19,8 +19,8 @@ pub fn perform<C: Carrier, K: Coin, I: Item>(
     coin: &K,
     turn: &Turn<I>,
 ) -> Result<Answer, Refusal>
-    ensures event { Performed C.Carrier.posting C.Carrier.taking line.now (K.Coin.shows coin.now) (held memory.old) I.Item.packed (C.Carrier.capacity carrier.old) (C.Carrier.waiting carrier.old) turn.now result carrier.old (held memory.new) (C.Carrier.waiting carrier.new) carrier.new }
-    ensures kept { C.Carrier.capacity carrier.new ≡ C.Carrier.capacity carrier.old }
+    ensures event { Performed C.waiting C.posting C.taking line.now (K.shows coin.now) (held memory.old) I.ok I.packed (C.capacity carrier.old) turn.now result carrier.old (held memory.new) carrier.new }
+    ensures kept { C.capacity carrier.new ≡ C.capacity carrier.old }
 {
     let answer = match turn {
         Turn::Announce { process, value } => {

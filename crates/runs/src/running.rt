@@ -1,4 +1,5 @@
 // Making a list of turns on a line that is opened for it.
+ghost use Rattle.std.specs.Prelude.{◌≡◌};
 ghost use Rattle.memory.specs.Contents.{held};
 ghost use Rattle.runs.specs.Ran.{Ran, RanShared};
 
@@ -20,7 +21,8 @@ pub fn run<C: Carrier, K: Coin, I: Item>(
     coin: &K,
     turns: &[Turn<I>],
 ) -> Result<Line, (Refusal, Draft)>
-    ensures { Ran I.Item.ok I.Item.packed I.Item.unpacked draft (C.Carrier.capacity carrier.old) (K.Coin.shows coin.now) (held memory.old) (C.Carrier.waiting carrier.old) turns.now result (held memory.new) (C.Carrier.waiting carrier.new) }
+    ensures ran { Ran C.waiting C.posting C.taking I.ok I.packed I.unpacked draft (C.capacity carrier.old) (K.shows coin.now) (held memory.old) carrier.old turns.now result (held memory.new) carrier.new }
+    ensures kept { C.capacity carrier.new ≡ C.capacity carrier.old }
 {
     let line = open_line(draft, memory, carrier)?;
     for turn in turns {
@@ -37,7 +39,8 @@ pub fn run_shared<C: Carrier, K: SharedCoin, I: Item>(
     coin: &K,
     turns: &[Turn<I>],
 ) -> Result<Line, (Refusal, Draft)>
-    ensures { RanShared I.Item.ok I.Item.packed I.Item.unpacked draft (C.Carrier.capacity carrier.old) (K.Coin.shows coin.now) (K.SharedCoin.side coin.now) (held memory.old) (C.Carrier.waiting carrier.old) turns.now result (held memory.new) (C.Carrier.waiting carrier.new) }
+    ensures ran { RanShared C.waiting C.posting C.taking I.ok I.packed I.unpacked draft (C.capacity carrier.old) (K.shows coin.now) (K.side coin.now) (held memory.old) carrier.old turns.now result (held memory.new) carrier.new }
+    ensures kept { C.capacity carrier.new ≡ C.capacity carrier.old }
 {
     run(draft, memory, carrier, coin, turns)
 }

@@ -31,11 +31,11 @@ impl<C: Carrier> Tray<C> {
 // A tray says nothing of the order in which it takes messages. Its two `match` are no `or_else`, since a proof does not
 // see there what the closure changes below.
 impl<C: Carrier> Carrier for Tray<C> {
-    ghost waiting = { λ x. kept x.table.places ++ C.Carrier.waiting x.below };
+    ghost waiting = { λ x. kept x.table.places ++ C.waiting x.below };
 
-    ghost capacity = { λ x. 8 + C.Carrier.capacity x.below };
+    ghost capacity = { λ x. 8 + C.capacity x.below };
 
-    ghost fits = { λ x. both_fit x.table.places (C.Carrier.waiting x.below) (C.Carrier.capacity x.below) (C.Carrier.fits x.below) };
+    ghost fits = { λ x. both_fit x.table.places (C.waiting x.below) (C.capacity x.below) (C.fits x.below) };
 
     fn free(&self) -> u32 {
         self.below.free().saturating_add(self.table.free())

@@ -10,7 +10,7 @@ pub returns-in_err-check_process-clause-turn : goal.returns-in_err-check_process
 returns-in_err-check_process-clause-turn g c =
     let p = err_from_is_err_and c.from_residual.result c.from_residual.ensures.1 in
     rw (p.1, p.2)
-    record { first = not_from c.args.line.now (g.C.Carrier.capacity c.args.carrier.now) (held c.args.memory.now) (g.C.Carrier.waiting c.args.carrier.now) c.args.message c.sender.result _ c.sender.ensures c.in_err-check_process.ensures.first; memory = refl; carrier = refl }
+    record { first = not_from c.args.line.now (g.C.Carrier.capacity c.args.carrier.now) (held c.args.memory.now) (g.C.Carrier.waiting c.args.carrier.now) c.args.message c.sender.result c.sender.ensures _ c.in_err-check_process.ensures.first; memory = refl; carrier = refl }
 
 pub returns-then-addressee-n-clause-turn : goal.returns-then-addressee-n-clause-turn
 returns-then-addressee-n-clause-turn g c =

@@ -5,5 +5,7 @@ use Rattle.runs.proofs.running.run.Given as goal
 
 abbrev pub invariant-loop-turn : goal.invariant-loop-turn
 invariant-loop-turn g l =
-    (g.C.Carrier.capacity l.carrier ≡ g.C.Carrier.capacity l.initial.carrier)
-    × Led g.I.Item.packed l.line (g.C.Carrier.capacity l.carrier) (g.K.Coin.shows l.coin) (take l.turn-index l.turns) (held l.initial.memory) (held l.memory) (g.C.Carrier.waiting l.carrier)
+    let carrier = g.C.Carrier in
+    let item = g.I.Item in
+    (carrier.capacity l.carrier ≡ carrier.capacity l.initial.carrier)
+    × Led carrier.waiting carrier.posting carrier.taking item.ok item.packed item.unpacked l.line (carrier.capacity l.initial.carrier) (g.K.Coin.shows l.coin) (take l.turn-index l.turns) (held l.initial.memory) l.initial.carrier (held l.memory) l.carrier
