@@ -13,7 +13,7 @@ use Rattle.protocol.specs.Phases.{kind}
 use Rattle.consensus.specs.Rounds.{Accepted, tally, Allows}
 use Rattle.consensus.specs.Validity.{Quorum}
 use Rattle.consensus.proofs.Sides.{both_sides}
-use Rattle.cases.specs.Steps.{side_above, forced_side, proposed, voted, next_ballot, in_third, step_by, Says}
+use Rattle.cases.specs.Steps.{side_above, forced_side, proposed, voted, step_by, Says}
 
 module _ (count : Ballot → ℕ) where
   module _ (bound : ℕ) where
@@ -41,7 +41,8 @@ module _ (count : Ballot → ℕ) where
         go None x h = absurd cc
         go (Some v) x h = let same : vote v ≡ b = cc in inl (v, above_some t v x, sym (ap ballot_number same))
 
-    next_allowed : (q : Kind) (b : Ballot) → next_ballot n t q count ≡ Some b → Allows n t q count (ballot_number b)
+    next_allowed : (q : Kind) (b : Ballot) → (step_by n t q count).next ≡ Some b → Allows n t q count (ballot_number b)
+    unfolding step_by
     next_allowed First b e = let same : vote _ ≡ b = cc in sym (ap ballot_number same)
     next_allowed Second b e = let same : proposed n count ≡ b = cc in subst (λ (d : Ballot). Allows n t Second count (ballot_number d)) same second_allowed
     next_allowed Third b e = third_allowed b e
@@ -50,34 +51,38 @@ module _ (count : Ballot → ℕ) where
     voted_none None e = refl
     voted_none (Some v) e = absurd cc
 
-    next_tossed : (q : Kind) → next_ballot n t q count ≡ None → (q ≡ Third) × ((v : Side) → count (proposal v) ≤ t) × ((v : Side) → Allows n t q count (ballot_number (vote v)))
+    next_tossed : (q : Kind) → (step_by n t q count).next ≡ None → (q ≡ Third) × ((v : Side) → count (proposal v) ≤ t) × ((v : Side) → Allows n t q count (ballot_number (vote v)))
+    unfolding step_by
     next_tossed First e = absurd cc
     next_tossed Second e = absurd cc
     next_tossed Third e = let few = above_none t (voted_none (forced_side t count) e) in (refl, few, λ v. inr (few, (v, refl)))
 
-    third_some : (q : Kind) (o : Option Side) (v : Side) → in_third q o ≡ Some v → (q ≡ Third) × (o ≡ Some v)
-    third_some First o v e = absurd cc
-    third_some Second o v e = absurd cc
-    third_some Third o v e = (refl, e)
+    next_decides : (q : Kind) (v : Side) → (step_by n t q count).decides ≡ Some v → (q ≡ Third) × (2 * t < count (proposal v))
+    unfolding step_by
+    next_decides First v e = absurd cc
+    next_decides Second v e = absurd cc
+    next_decides Third v e = (refl, above_some (2 * t) v e)
 
-    next_forced : (q : Kind) (v : Side) → in_third q (forced_side t count) ≡ Some v → (q ≡ Third) × (t < count (proposal v)) × (next_ballot n t q count ≡ Some (vote v))
+    next_forced : (q : Kind) (v : Side) → (step_by n t q count).forced ≡ Some v → (q ≡ Third) × (t < count (proposal v)) × ((step_by n t q count).next ≡ Some (vote v))
+    unfolding step_by
     next_forced First v e = absurd cc
     next_forced Second v e = absurd cc
     next_forced Third v e = (refl, above_some t v e, ap voted e)
 
-    next_unforced : (q : Kind) → q ≡ Third → in_third q (forced_side t count) ≡ None → ((v : Side) → count (proposal v) ≤ t) × (next_ballot n t q count ≡ None)
+    next_unforced : (q : Kind) → q ≡ Third → (step_by n t q count).forced ≡ None → ((v : Side) → count (proposal v) ≤ t) × ((step_by n t q count).next ≡ None)
+    unfolding step_by
     next_unforced First x e = absurd cc
     next_unforced Second x e = absurd cc
     next_unforced Third x e = (above_none t e, ap voted e)
 
-    next_undecided : (q : Kind) → q ≡ Third → in_third q (side_above (2 * t) count) ≡ None → (v : Side) → count (proposal v) ≤ 2 * t
+    next_undecided : (q : Kind) → q ≡ Third → (step_by n t q count).decides ≡ None → (v : Side) → count (proposal v) ≤ 2 * t
+    unfolding step_by
     next_undecided First x e = absurd cc
     next_undecided Second x e = absurd cc
     next_undecided Third x e = above_none (2 * t) e
 
 -- the step of a full set says what the set says
 pub says : (n t : ℕ) (G : Accepted) (q : ℕ) (S : ℕ → Bool) → Quorum n t G q S → Says n t G q S (step_by n t (kind q) (tally n G q S))
-unfolding step_by
 says n t G q S full =
     let count = tally n G q S in
     record {
@@ -86,6 +91,6 @@ says n t G q S full =
       tossed = next_tossed count n t (kind q);
       forced = next_forced count n t (kind q);
       unforced = next_unforced count n t (kind q);
-      decides = λ v e. let x = third_some count n t (kind q) (side_above (2 * t) count) v e in (x.0, above_some count (2 * t) v x.1);
+      decides = next_decides count n t (kind q);
       undecided = next_undecided count n t (kind q);
     }

@@ -40,27 +40,19 @@ abbrev pub voted : Option Side → Option Ballot
 voted None = None
 voted (Some v) = Some (vote v)
 
--- what follows on a set of a round, by its counts; none if the coin is tossed
-abbrev pub next_ballot : ℕ → ℕ → Kind → (Ballot → ℕ) → Option Ballot
-next_ballot n t First count = Some (vote (ahead count))
-next_ballot n t Second count = Some (proposed n count)
-next_ballot n t Third count = voted (forced_side t count)
+-- a step that says a ballot, and forces and decides nothing
+abbrev pub saying : Ballot → Step
+saying b = record { next = Some b; forced = None; decides = None }
 
--- only a third round forces and decides
-abbrev pub in_third : Kind → Option Side → Option Side
-in_third First o = None
-in_third Second o = None
-in_third Third o = o
+-- what follows on a third round: the coin is tossed where no side is forced
+abbrev pub third_step : ℕ → (Ballot → ℕ) → Step
+third_step t count = record { next = voted (forced_side t count); forced = forced_side t count; decides = decided_side t count }
 
+-- what follows on a set of a round, by its counts
 unfoldable pub step_by : ℕ → ℕ → Kind → (Ballot → ℕ) → Step
-step_by n t q count = record { next = next_ballot n t q count; forced = in_third q (forced_side t count); decides = in_third q (decided_side t count) }
-
--- the steps that the code makes
-abbrev pub say : Ballot → Step
-say b = record { next = Some b; forced = None; decides = None }
-
-abbrev pub after_third : ℕ → (Ballot → ℕ) → Step
-after_third t count = record { next = voted (forced_side t count); forced = forced_side t count; decides = decided_side t count }
+step_by n t First count = saying (vote (ahead count))
+step_by n t Second count = saying (proposed n count)
+step_by n t Third count = third_step t count
 
 -- whether there is a ballot
 abbrev pub stands : (ℕ → Option Ballot) → ℕ → Bool

@@ -3,7 +3,7 @@ ghost use Rattle.std.specs.Prelude.{◌≡◌};
 ghost use Rattle.protocol.specs.Phases.{kind};
 ghost use Rattle.consensus.specs.Rounds.{ahead};
 ghost use Rattle.ballots.specs.Tallies.{amount};
-ghost use Rattle.cases.specs.Steps.{proposed, over, say, after_third, step_by};
+ghost use Rattle.cases.specs.Steps.{proposed, over, saying, third_step, step_by};
 
 use crate::steps::Step;
 use ballots::Tally;
@@ -16,14 +16,14 @@ pub(crate) fn step_by(plan: &Plan, round: u64, tally: Tally) -> Step
     ensures { result ≡ step_by plan.now.n plan.now.t (kind round) (amount tally) }
 {
     match Kind::of_round(round) {
-        Kind::First => say(Ballot::vote(side_ahead(tally))),
-        Kind::Second => say(proposed(plan, tally)),
-        Kind::Third => after_third(plan, tally),
+        Kind::First => saying(Ballot::vote(side_ahead(tally))),
+        Kind::Second => saying(proposed(plan, tally)),
+        Kind::Third => third_step(plan, tally),
     }
 }
 
-fn say(ballot: Ballot) -> Step
-    ensures { result ≡ say ballot }
+fn saying(ballot: Ballot) -> Step
+    ensures { result ≡ saying ballot }
 {
     Step {
         next: Some(ballot),
@@ -51,8 +51,8 @@ fn proposed(plan: &Plan, tally: Tally) -> Ballot
     side_over(plan.n(), keep, release).map_or(Ballot::Open, Ballot::proposal)
 }
 
-fn after_third(plan: &Plan, tally: Tally) -> Step
-    ensures { result ≡ after_third plan.now.t (amount tally) }
+fn third_step(plan: &Plan, tally: Tally) -> Step
+    ensures { result ≡ third_step plan.now.t (amount tally) }
 {
     let keep = u64::from(tally.propose_keep);
     let release = u64::from(tally.propose_release);

@@ -11,12 +11,17 @@ pub record Full (n t : ℕ) (V : ℕ → ℕ → Type 0) (S : ℕ → Bool) : Ty
   pub size : below n S ≡ n - t
   pub member : (k : ℕ) → k < n → S k ≡ true → (b : ℕ) × V k b
 
--- In round r, G has the valid ballot b of process o: in round 0 a vote, later what some full set S of valid ballots of
--- the round before allows.
+abbrev pub IsVote : ℕ → Type 0
+IsVote b = (v : Side) × (b ≡ ballot_number (vote v))
+
+-- some full set of the ballots of round r that V holds of allows b in the round after it
+abbrev pub Backed : ℕ → ℕ → Accepted → (ℕ → ℕ → Type 0) → ℕ → ℕ → Type 0
+Backed n t G V r b = (S : ℕ → Bool) × Full n t V S × Allows n t (kind r) (tally n G r S) b
+
+-- In round r, G has the valid ballot b of process o: in round 0 a vote, later one that valid ballots of the round before back.
 unfoldable pub Valid : ℕ → ℕ → Accepted → ℕ → ℕ → ℕ → Type 0
-Valid n t G zero o b = (G o zero ≡ Some b) × ((v : Side) × (b ≡ ballot_number (vote v)))
-Valid n t G (suc r) o b =
-    (G o (suc r) ≡ Some b) × ((S : ℕ → Bool) × Full n t (Valid n t G r) S × Allows n t (kind r) (tally n G r S) b)
+Valid n t G zero o b = (G o zero ≡ Some b) × IsVote b
+Valid n t G (suc r) o b = (G o (suc r) ≡ Some b) × Backed n t G (Valid n t G r) r b
 
 -- S is a full set of valid ballots of round r in G
 abbrev pub Quorum : ℕ → ℕ → Accepted → ℕ → (ℕ → Bool) → Type 0
@@ -24,8 +29,8 @@ Quorum n t G r S = Full n t (Valid n t G r) S
 
 -- what a process that has accepted A may say in round r
 abbrev pub Justified : ℕ → ℕ → Accepted → ℕ → ℕ → Type 0
-Justified n t A zero b = (v : Side) × (b ≡ ballot_number (vote v))
-Justified n t A (suc r) b = (S : ℕ → Bool) × Quorum n t A r S × Allows n t (kind r) (tally n A r S) b
+Justified n t A zero b = IsVote b
+Justified n t A (suc r) b = Backed n t A (Valid n t A r) r b
 
 -- the m lowest k that pass the test
 unfoldable pub lowest : ℕ → (ℕ → Bool) → ℕ → Bool

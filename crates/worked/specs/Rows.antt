@@ -1,5 +1,6 @@
 -- Nine worked rows: what the definitions give for numbers that can be followed by hand. Assumes nothing.
 use Rattle.std.specs.Prelude.{◌≡◌, ℕ, List, [], ◌∷◌, Some, None, Ok, Err, Option, Result}
+use Rattle.protocol.specs.Numbers.{vote}
 use Rattle.protocol.specs.declared.refusals.Refusal.{Refusal}
 use Rattle.protocol.specs.declared.votes.Ballot.{Ballot}
 use Rattle.protocol.specs.declared.votes.Ballot.TheVariants.{Keep, Release, ProposeKeep, ProposeRelease, Open}
@@ -17,6 +18,8 @@ pub data Row : Type 0 where
   sheet : (n t echo ready accept : ℕ) → Row
   -- by so many keeps, releases, proposals to keep and to release, and open ballots, a process says next, is forced and decides
   step : (n t : ℕ) (round : Kind) (keeps releases propose_keep propose_release opens : ℕ) (next : Option Ballot) (forced decides : Option Side) → Row
+  -- for either side: by so many of its proposals, and so many open ballots, a process says next, is forced and decides
+  third : (n t proposals opens : ℕ) (next : Side → Option Ballot) (forced decides : Side → Option Side) → Row
   -- the record of these fields has this body
   body : (kind colour station day shelf packed : ℕ) → Row
 
@@ -27,6 +30,10 @@ cast k r pk pr o ProposeKeep = pk
 cast k r pk pr o ProposeRelease = pr
 cast k r pk pr o Open = o
 
+abbrev pub cast_for : Side → ℕ → ℕ → Ballot → ℕ
+cast_for side.Keep k o = cast 0 0 k 0 o
+cast_for side.Release k o = cast 0 0 0 k o
+
 abbrev pub body_in : Result Record Refusal → Option ℕ
 body_in (Ok r) = Some (body_of r)
 body_in (Err e) = None
@@ -34,6 +41,7 @@ body_in (Err e) = None
 abbrev pub Holds : Row → Type 0
 Holds (sheet n t e r a) = thresholds_of n t ≡ record { echo = e; ready = r; accept = a }
 Holds (step n t q k r pk pr o next forced decides) = step_by n t q (cast k r pk pr o) ≡ record { next = next; forced = forced; decides = decides }
+Holds (third n t k o next forced decides) = (v : Side) → step_by n t Third (cast_for v k o) ≡ record { next = next v; forced = forced v; decides = decides v }
 Holds (body kind colour station day shelf b) = body_in (recorded kind colour station day shelf) ≡ Some b
 
 abbrev pub table : List Row
@@ -43,9 +51,9 @@ table =
     ∷ (sheet 16 5 11 6 11
     ∷ (step 5 1 First 2 2 0 0 0 (Some Keep) None None
     ∷ (step 6 1 Second 2 3 0 0 0 (Some Open) None None
-    ∷ (step 4 1 Third 0 0 0 3 0 (Some Release) (Some side.Release) (Some side.Release)
-    ∷ (step 4 1 Third 0 0 0 2 1 (Some Release) (Some side.Release) None
-    ∷ (step 4 1 Third 0 0 0 1 2 None None None
+    ∷ (third 4 1 3 0 (λ v. Some (vote v)) Some Some
+    ∷ (third 4 1 2 1 (λ v. Some (vote v)) Some (λ _. None)
+    ∷ (third 4 1 1 2 (λ _. None) (λ _. None) (λ _. None)
     ∷ (body 1 2 3 4 5 0x0102000300040005 ∷ []))))))))
 
 abbrev pub AllHold : List Row → Type 0
