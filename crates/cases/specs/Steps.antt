@@ -7,6 +7,7 @@ use Rattle.protocol.specs.declared.votes.Side.TheVariants as side
 use Rattle.protocol.specs.declared.votes.Ballot.{Ballot}
 use Rattle.protocol.specs.declared.votes.Ballot.TheVariants.{Open}
 use Rattle.plan.specs.declared.plans.Plan.{Plan}
+use Rattle.plan.specs.Plans.{quorum}
 use Rattle.memory.specs.Contents.{Held, case_at}
 use Rattle.memory.specs.Places.{case_place}
 use Rattle.protocol.specs.declared.votes.Kind.{Kind}
@@ -68,11 +69,11 @@ module _ (plan : Plan) (h : Held) (i c : ℕ) where
   voters = stands (valid_at plan h i c round_at)
 
   abbrev pub may_advance : Bool
-  may_advance = covers plan h i c round_at && nat_le (plan.n - plan.t) (below plan.n voters)
+  may_advance = covers plan h i c round_at && nat_le (quorum plan) (below plan.n voters)
 
   -- the set that it goes by, and how many that set has of each ballot
   abbrev pub chosen : ℕ → Bool
-  chosen = lowest (plan.n - plan.t) voters
+  chosen = lowest (quorum plan) voters
 
   abbrev pub chosen_counts : Ballot → ℕ
   chosen_counts = tally plan.n (ballots_at plan h i c) (round_at - 1) chosen

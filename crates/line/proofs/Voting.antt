@@ -1,25 +1,16 @@
 -- Where a case record has its place, and when advancing is allowed. Assumes nothing.
 use Rattle.std.proofs.Common.{◌≡◌, ℕ, ◌+◌, ◌-◌, ◌*◌, ◌<◌, Bool, true, false, cond, ◌&&◌, ◌||◌, ltb, leb, List, [], length, Some, None, sym, Option, Ok, ok_or, refl, ap, ◌∙◌, arith}
 use Rattle.std.proofs.lemmas.Bool.{cond-true, lt-ltb}
-use Rattle.std.proofs.lemmas.Bool.Decides.{nat_tests}
-use Rattle.protocol.specs.Numbers.{ballot_number}
-use Rattle.protocol.specs.Sending.{to_all}
 use Rattle.protocol.specs.declared.messages.Message.{Message}
-use Rattle.protocol.specs.declared.messages.Step.TheVariants.{Initial}
-use Rattle.protocol.specs.declared.messages.Subject.{Subject}
-use Rattle.protocol.specs.declared.messages.Subject.TheVariants.{Ballot as BallotOf}
 use Rattle.protocol.specs.declared.refusals.Refusal.{Refusal}
 use Rattle.protocol.specs.declared.refusals.Refusal.TheVariants.{SubjectOutOfPlan}
-use Rattle.protocol.specs.declared.votes.Ballot.{Ballot}
 use Rattle.plan.specs.Kinds.{Line}
 use Rattle.plan.specs.declared.plans.Plan.{Plan}
 use Rattle.memory.specs.Contents.{Held}
 use Rattle.memory.specs.Places.{case_place, case_place_of}
 use Rattle.cases.specs.Steps.{round_at, may_advance, step_at}
 use Rattle.cases.specs.declared.steps.Step.{Step}
-use Rattle.rules.specs.Turns.{Advance, refusal, ballots, correct_tests}
-use Rattle.line.specs.Checks.{spacious}
-use Rattle.line.specs.Sent.{subject_after, sent_for}
+use Rattle.rules.specs.Turns.{Advance, refusal, correct_tests, subject_after, room_for_ballot}
 
 -- what the place of a case record says of the case
 pub some_place : (plan : Plan) (i c : ℕ) → i < plan.n → (at : ℕ) → Ok at ≡ ok_or (case_place_of plan i c) SubjectOutOfPlan → (at ≡ case_place plan i c) × (ltb c plan.cases ≡ true)
@@ -34,22 +25,6 @@ module _ (line : Line) (capacity : ℕ) (h : Held) (ws : List Message) (i c : �
   may_step true s t e = refl
   may_step false s t e = let z : ◌≡◌ {A = ℕ} 0 1 = cc in absurd (omega arith)
 
-  -- the same test of the last round, as code and rules have it
-  room_is : (r p : ℕ) (s : Subject) → spacious line (cond (ltb r p) (Some s) None) capacity ws ≡ (leb p r || leb line.plan.n (capacity - length ws))
-  room_is r p s = go (ltb r p) refl
-    where
-      go : (t : Bool) → ltb r p ≡ t → spacious line (cond t (Some s) None) capacity ws ≡ (leb p r || leb line.plan.n (capacity - length ws))
-      go true e = let z : leb p r ≡ false = grind (arith, nat_tests) in ap (λ b. b || leb line.plan.n (capacity - length ws)) (sym z)
-      go false e = let z : leb p r ≡ true = grind (arith, nat_tests) in ap (λ b. b || leb line.plan.n (capacity - length ws)) (sym z)
-
-  pub may_go_on : ltb c line.plan.cases ≡ true → (s : Step) → Some s ≡ step_at line.plan h i c → spacious line (subject_after line i c (round_at line.plan h i c)) capacity ws ≡ true → refusal line capacity h ws (Advance i c) ≡ None
+  pub may_go_on : ltb c line.plan.cases ≡ true → (s : Step) → Some s ≡ step_at line.plan h i c → room_for_ballot line (subject_after line i c (round_at line.plan h i c)) capacity ws ≡ true → refusal line capacity h ws (Advance i c) ≡ None
   may_go_on known s e x =
-      before _ ∙ cond-true _ _ _ known ∙ cond-true _ _ _ (may_step (may_advance line.plan h i c) s _ e) ∙ cond-true _ _ _ (sym (room_is (round_at line.plan h i c) (3 * line.plan.phases) _) ∙ x)
-
--- what is sent of a ballot, as code and rules have it
-pub ballots_are : (line : Line) (i c r : ℕ) (next : Option Subject) (said b : Ballot) → next ≡ subject_after line i c r → said ≡ b → sent_for line next said ≡ ballots line i c r b
-ballots_are line i c r next said b after same = (λ j. sent_for line (after j) (same j)) ∙ go (ltb r (3 * line.plan.phases))
-  where
-    go : (t : Bool) → sent_for line (cond t (Some (BallotOf i c (r + 1))) None) b ≡ cond t (to_all line.plan.n i Initial (BallotOf i c (r + 1)) (ballot_number b)) []
-    go true = refl
-    go false = refl
+      before _ ∙ cond-true _ _ _ known ∙ cond-true _ _ _ (may_step (may_advance line.plan h i c) s _ e) ∙ cond-true _ _ _ x

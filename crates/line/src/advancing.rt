@@ -3,9 +3,9 @@ ghost use Rattle.std.specs.Prelude.{◌≡◌, ◌+◌, ◌<◌, true, length, I
 ghost use Rattle.protocol.specs.Messages.{originator_of};
 ghost use Rattle.memory.specs.Contents.{held};
 ghost use Rattle.rules.specs.Answers.{Advancement};
-ghost use Rattle.rules.specs.Turns.{said, decision_after};
-ghost use Rattle.line.specs.Checks.{spacious, Spacious};
-ghost use Rattle.line.specs.Sent.{Sent, subject_after, sent_for};
+ghost use Rattle.rules.specs.Turns.{said, decision_after, subject_after, sent_for, room_for_ballot};
+ghost use Rattle.line.specs.Checks.{RoomForBallot};
+ghost use Rattle.line.specs.Sent.{Sent};
 
 use crate::checks::{check_correct, check_room_for_all, find_case};
 use crate::sending::send_initials;
@@ -66,7 +66,7 @@ fn check_room_for_next<C: Carrier>(
     carrier: &C,
     next: Option<Subject>,
 ) -> Result<(), Refusal>
-    ensures { Spacious result line.now next (C.capacity carrier.now) (C.waiting carrier.now) }
+    ensures { RoomForBallot result line.now next (C.capacity carrier.now) (C.waiting carrier.now) }
 {
     if next.is_some() {
         check_room_for_all(line, carrier)?;
@@ -99,7 +99,7 @@ fn said<K: Coin>(next: Option<Ballot>, coin: &K, process: u8, case: u8, phase: u
 // Sends the next ballot, if there is one. No `map_or`, since a proof does not see there what the closure posts.
 fn send_next<C: Carrier>(line: &Line, carrier: &mut C, next: Option<Subject>, ballot: Ballot) -> u64
     requires sender { IfSome next (λ s. originator_of s < 16) }
-    requires room { spacious line.now next (C.capacity carrier.old) (C.waiting carrier.old) ≡ true }
+    requires room { room_for_ballot line.now next (C.capacity carrier.old) (C.waiting carrier.old) ≡ true }
     ensures sent { Sent C.waiting C.capacity C.posting carrier.old (sent_for line.now next ballot) carrier.new }
     ensures count { result ≡ length (sent_for line.now next ballot) }
 {

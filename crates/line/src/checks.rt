@@ -5,7 +5,7 @@ ghost use Rattle.memory.specs.Contents.{held};
 ghost use Rattle.memory.specs.Places.{case_place_of};
 ghost use Rattle.rules.specs.Promises.{Correct};
 ghost use Rattle.rules.specs.Turns.{process_tests, correct_tests};
-ghost use Rattle.line.specs.Checks.{Answers, RoomForAll};
+ghost use Rattle.line.specs.Checks.{TestsAnswer, RoomForAll};
 
 use carrier::Carrier;
 use memory::{Memory, case_place};
@@ -14,7 +14,7 @@ use protocol::Refusal;
 
 // Refused where the memory is too small, and where the plan has no such process.
 pub fn check_process(line: &Line, memory: &Memory, process: u64) -> Result<(), Refusal>
-    ensures first { Answers result (process_tests line.now (held memory.now) process) }
+    ensures first { TestsAnswer result (process_tests line.now (held memory.now) process) }
     ensures within { OnOk result (process < line.now.plan.n) }
 {
     let plan = line.plan();
@@ -29,7 +29,7 @@ pub fn check_process(line: &Line, memory: &Memory, process: u64) -> Result<(), R
 
 // Refused for a faulty process too.
 pub fn check_correct(line: &Line, memory: &Memory, process: u64) -> Result<(), Refusal>
-    ensures first { Answers result (correct_tests line.now (held memory.now) process) }
+    ensures first { TestsAnswer result (correct_tests line.now (held memory.now) process) }
     ensures correct { OnOk result (Correct line.now process) }
 {
     check_process(line, memory, process)?;

@@ -3,7 +3,7 @@ ghost use Rattle.std.specs.Prelude.{◌≡◌, ◌*◌, length};
 ghost use Rattle.memory.specs.Contents.{held};
 ghost use Rattle.rules.specs.Turns.{replies};
 ghost use Rattle.rules.specs.Answers.{Delivery};
-ghost use Rattle.line.specs.Checks.{Roomy};
+ghost use Rattle.line.specs.Checks.{RoomForReplies};
 ghost use Rattle.line.specs.Sent.{Sent, HasRoom};
 
 use crate::checks::check_process;
@@ -45,7 +45,7 @@ pub fn deliver<C: Carrier>(
 
 // A correct process may have to send to all twice. Only where room for that is missing is it asked whether a message waits at all.
 fn check_room_for_replies<C: Carrier>(line: &Line, carrier: &C, process: u64) -> Result<(), Refusal>
-    ensures { Roomy result line.now process (C.capacity carrier.now) (C.waiting carrier.now) }
+    ensures { RoomForReplies result line.now process (C.capacity carrier.now) (C.waiting carrier.now) }
 {
     if line.is_faulty(process) || u64::from(carrier.free()) >= 2 * line.plan().n() {
         return Ok(());

@@ -6,7 +6,8 @@ use Rattle.protocol.specs.Messages.{originator_of}
 use Rattle.protocol.specs.declared.messages.Subject.{Subject}
 use Rattle.protocol.specs.declared.messages.Subject.TheVariants.{Item, Ballot}
 use Rattle.plan.specs.declared.plans.Plan.{Plan}
-use Rattle.memory.specs.Places.{within, subjects, number, place, echoes, readies, Laid}
+use Rattle.plan.specs.Plans.{subjects}
+use Rattle.memory.specs.Places.{within, number, place, echoes, readies, Laid}
 
 -- row and column are found again from a place
 grid_apart : (w a b c d : ℕ) → b < w → d < w → a * w + b ≡ c * w + d → (a ≡ c) × (b ≡ d)

@@ -4,7 +4,7 @@ use Rattle.protocol.specs.Messages.{originator_of}
 use Rattle.protocol.specs.declared.messages.Subject.{Subject}
 use Rattle.protocol.specs.declared.messages.Subject.TheVariants.{Item, Ballot}
 use Rattle.plan.specs.declared.plans.Plan.{Plan}
-use Rattle.plan.specs.Plans.{needs_of}
+use Rattle.plan.specs.Plans.{rounds, subjects, needs_of}
 use Rattle.memory.specs.declared.places.Place.{Place}
 use Rattle.memory.specs.Contents.{Held, stage_at, accepted_body}
 
@@ -19,15 +19,12 @@ enough plan h =
 -- whether the plan has the subject: rounds are numbered from 1
 abbrev pub within : Plan → Subject → Bool
 within plan (Item i k) = nat_lt i plan.n && nat_lt k plan.serials
-within plan (Ballot i c r) = nat_lt i plan.n && (nat_lt c plan.cases && (nat_le 1 r && nat_le r (3 * plan.phases)))
-
-abbrev pub subjects : Plan → ℕ
-subjects plan = plan.serials + 3 * plan.phases * plan.cases
+within plan (Ballot i c r) = nat_lt i plan.n && (nat_lt c plan.cases && (nat_le 1 r && nat_le r (rounds plan)))
 
 -- the number of a subject among those of its originator: the items, and then the rounds of case after case
 abbrev pub number : Plan → Subject → ℕ
 number plan (Item i k) = k
-number plan (Ballot i c r) = plan.serials + 3 * plan.phases * c + (r - 1)
+number plan (Ballot i c r) = plan.serials + rounds plan * c + (r - 1)
 
 -- the broadcast record that process i keeps of a subject
 abbrev pub place : Plan → ℕ → Subject → ℕ

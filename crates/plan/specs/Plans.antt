@@ -1,5 +1,5 @@
 -- Which numbers make a plan, and the memory that it needs. Assumes nothing.
-use Rattle.std.specs.Prelude.{◌≡◌, ℕ, ◌+◌, ◌*◌, Bool, true, false, ◌&&◌, Ok, Err, Result, nat_le, nat_lt, refl}
+use Rattle.std.specs.Prelude.{◌≡◌, ℕ, ◌+◌, ◌-◌, ◌*◌, Bool, true, false, ◌&&◌, Ok, Err, Result, nat_le, nat_lt, refl}
 use Rattle.std.proofs.lemmas.Bool.{and_parts, leb-true, ltb-true}
 use Rattle.protocol.specs.declared.refusals.Refusal.{Refusal}
 use Rattle.protocol.specs.declared.refusals.Refusal.TheVariants.{PlanOutOfRange}
@@ -38,11 +38,22 @@ module _ (n t serials cases phases : ℕ) where
   unfoldable pub planned : Result Plan Refusal
   planned = made_if (legal n t serials cases phases) refl
 
--- Each process keeps a record for each subject of each originator: an item for each serial, a ballot for each round of each case.
+-- how many rounds a case has, and how many subjects an originator: an item for each serial, a ballot for each round of each case
+abbrev pub rounds : Plan → ℕ
+rounds plan = 3 * plan.phases
+
+abbrev pub subjects : Plan → ℕ
+subjects plan = plan.serials + rounds plan * plan.cases
+
+-- how many processes can be waited for, since as many as may be faulty may stay silent
+abbrev pub quorum : Plan → ℕ
+quorum plan = plan.n - plan.t
+
+-- Each process keeps a record for each subject of each originator.
 -- A record has a place for the echo and for the ready of each sender.
 abbrev pub needs_of : Plan → Needs
 needs_of plan =
-    let records = plan.n * plan.n * (plan.serials + 3 * plan.phases * plan.cases) in
+    let records = plan.n * plan.n * subjects plan in
     record {
       broadcast_records = records;
       body_places = 2 * plan.n * records;

@@ -45,7 +45,7 @@ pub struct Thresholds {
 }
 
 impl Plan {
-    ghost use Rattle.plan.specs.Plans.{planned, needs_of};
+    ghost use Rattle.plan.specs.Plans.{planned, rounds, quorum, needs_of};
 
     // Fewer than a third of the processes may be faulty.
     pub fn new(n: u64, t: u64, serials: u64, cases: u64, phases: u64) -> Result<Plan, Refusal>
@@ -102,14 +102,14 @@ impl Plan {
 
     // How many rounds a case has.
     pub fn rounds(&self) -> u64
-        ensures { result ≡ 3 * self.now.phases }
+        ensures { result ≡ rounds self.now }
     {
         3 * self.phases()
     }
 
     // How many processes can be waited for, since as many as may be faulty may stay silent.
     pub fn quorum(&self) -> u64
-        ensures { result ≡ self.now.n - self.now.t }
+        ensures { result ≡ quorum self.now }
     {
         self.n() - self.t()
     }

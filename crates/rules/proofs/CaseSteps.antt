@@ -9,6 +9,7 @@ use Rattle.protocol.specs.declared.messages.Message.{Message}
 use Rattle.protocol.specs.declared.messages.Step.TheVariants.{Initial}
 use Rattle.protocol.specs.declared.messages.Subject.{Subject}
 use Rattle.protocol.specs.declared.messages.Subject.TheVariants.{Item, Ballot}
+use Rattle.protocol.specs.declared.votes.Ballot.{Ballot as BallotSaid}
 use Rattle.protocol.specs.declared.votes.Side.{Side}
 use Rattle.agreement.proofs.Bodies.{none_some}
 use Rattle.plan.specs.Kinds.{Line}
@@ -24,7 +25,7 @@ use Rattle.agreement.proofs.Waiting.{subject_same}
 use Rattle.ballots.proofs.Reading.{Covered, covered, ballot_within}
 use Rattle.cases.specs.Steps.{round_at, chosen, Law}
 use Rattle.cases.proofs.Going.{law}
-use Rattle.rules.specs.Turns.{said, decision_after, moved, advancing, Coin}
+use Rattle.rules.specs.Turns.{said, sent_for, decision_after, moved, advancing, Coin}
 use Rattle.rules.specs.Runs.{Event, opened, advanced, Aside, Advances, Happens}
 use Rattle.rules.proofs.Stages.{Shown}
 use Rattle.rules.proofs.Records.{Rows}
@@ -123,6 +124,9 @@ module _ (line : Line) (capacity : ℕ) (coin : Coin) (es : List Event) (h : Hel
     abbrev body : ℕ
     body = ballot_number (said a.step.next (coin i c (suc q / 3)))
 
+    abbrev said_ballot : BallotSaid
+    said_ballot = said a.step.next (coin i c (r / 3))
+
     body_is : ballot_number (said a.step.next (coin i c (r / 3))) ≡ body
     body_is = ap (λ (k : ℕ). ballot_number (said a.step.next (coin i c (k / 3)))) r_is
 
@@ -152,7 +156,7 @@ module _ (line : Line) (capacity : ℕ) (coin : Coin) (es : List Event) (h : Hel
 
     by_last : ltb r (3 * line.plan.phases) ≡ false → Follow line coin st onward after left
     by_last last =
-        let end : Same left ws = subst (λ ms. Same left (ms ++ ws)) (cond-false (ltb r (3 * line.plan.phases)) _ [] last) a.done.carrier in (
+        let end : Same left ws = subst (λ o. Same left (sent_for line o said_ballot ++ ws)) (cond-false (ltb r (3 * line.plan.phases)) _ None last) a.done.carrier in (
           st,
           λ run. run,
           subst (λ y. Shows line coin onward y left st) (sym a.done.memory) (record {
@@ -176,7 +180,7 @@ module _ (line : Line) (capacity : ℕ) (coin : Coin) (es : List Event) (h : Hel
         let n = line.plan.n in
         let subject_is : r + 1 ≡ suc (suc q) = omega (arith, r_is) in
         let end : Same left (to_all n i Initial (Ballot i c (suc (suc q))) body ++ ws) =
-        subst₂ (λ (k b : ℕ). Same left (to_all n i Initial (Ballot i c k) b ++ ws)) subject_is body_is (subst (λ ms. Same left (ms ++ ws)) (cond-true (ltb r (3 * line.plan.phases)) _ [] early) a.done.carrier) in
+        subst₂ (λ (k b : ℕ). Same left (to_all n i Initial (Ballot i c k) b ++ ws)) subject_is body_is (subst (λ o. Same left (sent_for line o said_ballot ++ ws)) (cond-true (ltb r (3 * line.plan.phases)) _ None early) a.done.carrier) in
         let inside = ballot_within line.plan i c (suc (suc q)) may_advance_lem.process may_advance_lem.case (omega arith) (omega (arith, before, r_is)) in (
           ballot_state,
           λ run. machine.after run (machine.tell (Ballot i c (suc (suc q))) body left (may_advance_lem.process, may_advance_lem.correct) unsaid_next (joined line capacity coin es h ws st shows (to_all n i Initial (Ballot i c (suc (suc q))) body) left end)),

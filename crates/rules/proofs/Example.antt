@@ -135,7 +135,7 @@ abbrev going : Held → ℕ → Step → Deed
 going h r step = record {
   refused = refusal line 3 h [] (turns.Advance 0 0);
   held = moved line 0 0 (r + 1) (decision_after (case_at h 0).decision step.decides (r / 3)) h;
-  sent = turns.ballots line 0 0 r (said step.next Release);
+  sent = turns.sent_for line (turns.subject_after line 0 0 r) (said step.next Release);
   accepts = false;
 }
 

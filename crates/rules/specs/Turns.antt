@@ -1,10 +1,12 @@
 -- What a turn does to memory and to what waits, and when it is refused. Assumes nothing.
-use Rattle.std.specs.Prelude.{◌≡◌, ℕ, ◌+◌, ◌*◌, ◌/◌, Bool, cond, not, ◌&&◌, ◌||◌, List, [], ◌∷◌, ◌++◌, length, Some, None, Option, ◌==◌, nat_le, nat_lt}
+use Rattle.std.specs.Prelude.{◌≡◌, ℕ, ◌+◌, ◌*◌, ◌/◌, Bool, true, cond, not, ◌&&◌, ◌||◌, List, [], ◌∷◌, ◌++◌, length, Some, None, Option, ◌==◌, nat_le, nat_lt}
 use Rattle.protocol.specs.Bags.{Same, waiting_for}
+use Rattle.protocol.specs.Messages.{originator_of}
 use Rattle.protocol.specs.Numbers.{ballot_number, vote}
 use Rattle.protocol.specs.Sending.{to_all}
 use Rattle.protocol.specs.declared.messages.Message.{Message}
 use Rattle.protocol.specs.declared.messages.Step.TheVariants.{Initial, Echo, Ready}
+use Rattle.protocol.specs.declared.messages.Subject.{Subject}
 use Rattle.protocol.specs.declared.messages.Subject.TheVariants.{Item}
 use Rattle.protocol.specs.declared.messages.Subject.TheVariants as subject
 use Rattle.protocol.specs.declared.votes.Ballot.{Ballot}
@@ -13,6 +15,7 @@ use Rattle.protocol.specs.declared.refusals.Refusal.{Refusal}
 use Rattle.protocol.specs.declared.refusals.Refusal.TheVariants.{MemoryTooSmall, ProcessOutOfRange, WrongRole, SubjectOutOfPlan, NothingWaiting, ValueOutOfRange, SerialsUsedUp, CaseAlreadyOpened, MayNotAdvance, NoRoom}
 use Rattle.plan.specs.Marks.{marked}
 use Rattle.plan.specs.Kinds.{Line}
+use Rattle.plan.specs.Plans.{rounds}
 use Rattle.carrier.specs.Waiting.{free_in}
 use Rattle.memory.specs.Contents.{Held, case_at, with_case, serial_at, with_serial}
 use Rattle.memory.specs.Places.{enough, within, case_place}
@@ -67,6 +70,15 @@ abbrev pub delivery_tests : Line → ℕ → ℕ → List Message → Option Ref
 delivery_tests line i capacity ws =
     unless (nat_le 1 (waiting_for i ws)) NothingWaiting (unless (room_for_replies line i capacity ws) NoRoom None)
 
+-- the subject of the ballot that a process sends after a round of a case: after the last round there is none
+abbrev pub subject_after : Line → ℕ → ℕ → ℕ → Option Subject
+subject_after line i c r = cond (nat_lt r (rounds line.plan)) (Some (subject.Ballot i c (r + 1))) None
+
+-- whether there is room for that ballot, if there is one
+abbrev pub room_for_ballot : Line → Option Subject → ℕ → List Message → Bool
+room_for_ballot line None capacity ws = true
+room_for_ballot line (Some s) capacity ws = nat_le line.plan.n (free_in capacity ws)
+
 -- why a turn is refused, if it is: the tests are made in the order of the refusals' numbers
 abbrev pub refusal : Line → ℕ → Held → List Message → Turn → Option Refusal
 refusal line capacity h ws (Announce i b) =
@@ -82,7 +94,7 @@ refusal line capacity h ws (Deliver i pick) = process_tests line h i (delivery_t
 refusal line capacity h ws (Advance i c) =
     case_tests line h i c
     (unless (may_advance line.plan h i c) MayNotAdvance
-    (unless (nat_le (3 * line.plan.phases) (round_at line.plan h i c) || nat_le line.plan.n (free_in capacity ws)) NoRoom None))
+    (unless (room_for_ballot line (subject_after line i c (round_at line.plan h i c)) capacity ws) NoRoom None))
 
 -- what a process sends in an item's broadcast when it announces it under serial k
 abbrev pub initials : Line → ℕ → ℕ → ℕ → List Message
@@ -109,9 +121,10 @@ decision_after (Some d) decides phase = Some d
 decision_after None None phase = None
 decision_after None (Some v) phase = Some (record { side = v; phase = phase })
 
--- what is sent of the ballot of round r + 1: after the last round nothing is
-abbrev pub ballots : Line → ℕ → ℕ → ℕ → Ballot → List Message
-ballots line i c r b = cond (nat_lt r (3 * line.plan.phases)) (to_all line.plan.n i Initial (subject.Ballot i c (r + 1)) (ballot_number b)) []
+-- what is sent of a ballot for a subject, if there is one
+abbrev pub sent_for : Line → Option Subject → Ballot → List Message
+sent_for line None b = []
+sent_for line (Some s) b = to_all line.plan.n (originator_of s) Initial s (ballot_number b)
 
 -- what a message does at its addressee: a faulty process drops it
 abbrev pub reacted : Line → Message → Held → Outcome
@@ -150,7 +163,7 @@ module _ (line : Line) (h : Held) where
   -- The process leaves round r by a step. The phase of a third round is a third of its number, and the coin shows a side for it.
   abbrev pub advancing : (coin : Coin) (i c r : ℕ) → Step → Effect
   advancing coin i c r step =
-      effect (moved line i c (r + 1) (decision_after (case_at h (case_place line.plan i c)).decision step.decides (r / 3)) h) (ballots line i c r (said step.next (coin i c (r / 3))))
+      effect (moved line i c (r + 1) (decision_after (case_at h (case_place line.plan i c)).decision step.decides (r / 3)) h) (sent_for line (subject_after line i c r) (said step.next (coin i c (r / 3))))
 
 -- The turn was refused: nothing changed.
 pub record Refused (why : Option Refusal) (e : Refusal) (h after : Held) (ws left : List Message) : Type 0 where

@@ -3,10 +3,9 @@ use Rattle.protocol.specs.declared.messages.Subject.{Subject}
 use Rattle.memory.specs.Contents.{held, case_at, with_case}
 use Rattle.memory.specs.declared.records.CaseRecord.{CaseRecord}
 use Rattle.cases.specs.Steps.{step_at, round_at}
-use Rattle.rules.specs.Turns.{said, decision_after}
-use Rattle.line.specs.Checks.{spacious}
-use Rattle.line.specs.Sent.{Sent, subject_after}
-use Rattle.line.proofs.Voting.{some_place, may_go_on, ballots_are}
+use Rattle.rules.specs.Turns.{said, decision_after, subject_after, sent_for, room_for_ballot}
+use Rattle.line.specs.Sent.{Sent}
+use Rattle.line.proofs.Voting.{some_place, may_go_on}
 use Rattle.line.proofs.advancing.advance.Goals as goal
 
 pub returns-clause-turn : goal.returns-clause-turn
@@ -27,7 +26,7 @@ returns-clause-turn g c =
     let coin = g.K.Coin.shows c.args.coin.now in
     let ballot = c.said-ballot.ensures ∙ ap (λ (r : ℕ). said step.next (coin i k (r / 3))) (sym c.from-round.ensures) in
     let next = c.subject_after-next.ensures in
-    let sends = ballots_are line i k from _ _ _ next ballot in
+    let sends : sent_for line c.subject_after-next.result c.said-ballot.result ≡ sent_for line (subject_after line i k from) (said step.next (coin i k (from / 3))) = λ j. sent_for line (next j) (ballot j) in
     let sent = subst (λ ms. Sent carrier.waiting carrier.capacity carrier.posting c.args.carrier.now ms c.send_next-posted.new.carrier) sends c.send_next-posted.ensures.sent in
     let written = λ (at r : ℕ) (x : CaseRecord). with_case at (record { round = r + 1; decision = decision_after x.decision step.decides (r / 3); slip = x.slip }) h in
     record {
@@ -44,7 +43,7 @@ returns-clause-turn g c =
             answer = refl;
             done =
                 record {
-                  allowed = may_go_on line (carrier.capacity c.args.carrier.now) h (carrier.waiting c.args.carrier.now) i k before.first place.1 step by (subst (λ (o : Option Subject). spacious line o (carrier.capacity c.args.carrier.now) (carrier.waiting c.args.carrier.now) ≡ true) (next ∙ ap (subject_after line i k) round) c.in_ok-check_room_for_next.ensures);
+                  allowed = may_go_on line (carrier.capacity c.args.carrier.now) h (carrier.waiting c.args.carrier.now) i k before.first place.1 step by (subst (λ (o : Option Subject). room_for_ballot line o (carrier.capacity c.args.carrier.now) (carrier.waiting c.args.carrier.now) ≡ true) (next ∙ ap (subject_after line i k) round) c.in_ok-check_room_for_next.ensures);
                   memory =
                       c.set_case_record.ensures
                       ∙ (λ j. with_case at (record { round = c.moved.ensures.round j; decision = c.moved.ensures.decision j; slip = c.moved.ensures.slip j }) h)
