@@ -75,6 +75,7 @@ abbrev pub opening : Result Line Refusal → Held → Opening
 opening r h = record { answer = r; memory = h }
 
 module _ (h : Held) (ws : List Message) where
+  -- the last case but one does not come: what was drafted makes a line
   abbrev pub opens_with : Plan → Option Refusal → Result Line Refusal → Opening
   opens_with plan (Some e) line = opening (Err e) h
   opens_with plan None (Err e) = opening (Err e) h

@@ -15,7 +15,7 @@ use Rattle.rules.specs.Promises.{Luck, Promises}
 use Rattle.runs.specs.declared.turns.Turn.{Turn}
 use Rattle.runs.specs.declared.turns.Turn.TheVariants.{Announce, Open, Forge, Deliver, Advance}
 use Rattle.runs.specs.Performed.{asked, answer_of, Fits, Occurs, Performed}
-use Rattle.runs.specs.Ran.{Straight, at_opening, one_more, Led, Values, SharedLuck}
+use Rattle.runs.specs.Ran.{Straight, at_opening, one_more, Led, IsOf, Values, SharedLuck}
 
 module _ {C I : Type 0} (waiting : C → List Message) (posting : C → Message → C → Type 0) (taking : C → ℕ → ℕ → Message → C → Type 0) (ok : I → Type 0) (packed : I → ℕ) (unpacked : ℕ → Option I) (line : Line) (capacity : ℕ) (coin : Coin) where
   -- what occurs is a run
@@ -69,10 +69,12 @@ module _ {C I : Type 0} (waiting : C → List Message) (posting : C → Message 
 pub values : {I : Type 0} (ok : I → Type 0) (packed : I → ℕ) (unpacked : ℕ → Option I) → Faithful ok packed unpacked → (line : Line) (coin : Coin) (es : List Event) (h : Held) (ws : List Message) → ((i k b : ℕ) → Announced es i k b → (value : I) × ok value × (packed value ≡ b)) → Promises line coin es h ws → Values packed unpacked line es h ws
 values ok packed unpacked faithful line coin es h ws fits p = record {
   accepted = λ s i j b c ci cj x y. let same = p.agreement.bodies s i j b c ci cj x y in (same, ap unpacked same);
-  announced = λ rest i j k b ci cj x.
-      let v = fits i k b x in
-      (v.0, record { body = v.2; kept = p.recorded.kept (Item i k) j b cj ((p.rest rest).announced i j k b ci cj x); read = ap unpacked (sym v.2) ∙ faithful.full v.0 v.1 });
+  items = λ i j k b ci cj x. let told = p.agreement.items i j k b ci cj x in (told, value_of i k b told);
+  announced = λ rest i j k b ci cj x. (p.recorded.kept (Item i k) j b cj ((p.rest rest).announced i j k b ci cj x), value_of i k b x);
 }
+  where
+    value_of : (i k b : ℕ) → Announced es i k b → (value : _) × IsOf packed unpacked b value
+    value_of i k b x = let v = fits i k b x in (v.0, record { body = v.2; read = ap unpacked (sym v.2) ∙ faithful.full v.0 v.1 })
 
 -- what a shared coin decides
 pub shared_luck : (line : Line) (coin : Coin) (side : ℕ → ℕ → Side) (es : List Event) → Shared coin side → Luck line coin es → SharedLuck line side es

@@ -11,7 +11,7 @@ use Rattle.memory.specs.Contents.{Held}
 use Rattle.memory.specs.Places.{body_at}
 use Rattle.line.specs.Opening.{LineOpened, LineNotOpened}
 use Rattle.rules.specs.Turns.{Coin}
-use Rattle.rules.specs.Runs.{Event, turn_of, Announced, Accepted, Ended, Forced, Decided}
+use Rattle.rules.specs.Runs.{Event, Run, turn_of, Announced, Accepted, Ended, Forced, Decided}
 use Rattle.rules.specs.Promises.{Correct, AtRest, Promises}
 use Rattle.runs.specs.declared.turns.Turn.{Turn}
 use Rattle.runs.specs.Performed.{asked, Occurs}
@@ -20,18 +20,19 @@ use Rattle.runs.specs.Performed.{asked, Occurs}
 abbrev pub ReadAlike : {I : Type 0} → (ℕ → Option I) → ℕ → ℕ → Type 0
 ReadAlike unpacked b c = (b ≡ c) × (unpacked b ≡ unpacked c)
 
--- Each of the correct processes has value as the one that was announced, and reads it.
-pub record HasValue {I : Type 0} (packed : I → ℕ) (unpacked : ℕ → Option I) (line : Line) (h : Held) (j : ℕ) (s : Subject) (b : ℕ) (value : I) : Type 0 where
+-- A body is that of a value, and it is read as this value.
+pub record IsOf {I : Type 0} (packed : I → ℕ) (unpacked : ℕ → Option I) (b : ℕ) (value : I) : Type 0 where
   pub body : packed value ≡ b
-  pub kept : body_at line.plan h j s ≡ Some b
   pub read : unpacked b ≡ Some value
 
 -- What was promised of bodies, in the values of an item type.
 pub record Values {I : Type 0} (packed : I → ℕ) (unpacked : ℕ → Option I) (line : Line) (es : List Event) (h : Held) (ws : List Message) : Type 0 where
   -- Correct processes accept alike.
   pub accepted : (s : Subject) (i j b c : ℕ) → Correct line i → Correct line j → Accepted es i s b → Accepted es j s c → ReadAlike unpacked b c
-  -- At rest each of them has the body of the value that one of them announced, and it is read as this value.
-  pub announced : AtRest line h ws → (i j k b : ℕ) → Correct line i → Correct line j → Announced es i k b → (value : I) × HasValue packed unpacked line h j (Item i k) b value
+  -- What is accepted as an item of a correct process is the value that this process announced.
+  pub items : (i j k b : ℕ) → Correct line i → Correct line j → Accepted es j (Item i k) b → Announced es i k b × ((value : I) × IsOf packed unpacked b value)
+  -- At rest each of them has the value that one of them announced.
+  pub announced : AtRest line h ws → (i j k b : ℕ) → Correct line i → Correct line j → Announced es i k b → (body_at line.plan h j (Item i k) ≡ Some b) × ((value : I) × IsOf packed unpacked b value)
 
 -- A phase of a case that forces no correct process but to the side that a shared coin shows decides this side for each
 -- correct process that ends the next phase.
@@ -58,6 +59,7 @@ module _ {C I : Type 0} (waiting : C → List Message) (posting : C → Message 
     pub start : Held
     pub opened : LineOpened draft h (waiting before) line start
     pub led : Led line capacity coin turns start before next after
+    pub run : Run line capacity coin led.events next (waiting after)
     pub promises : Promises line coin led.events next (waiting after)
     pub values : Values packed unpacked line led.events next (waiting after)
 
