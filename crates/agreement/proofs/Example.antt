@@ -11,7 +11,7 @@ use Rattle.agreement.specs.Worlds.{Correct}
 use Rattle.agreement.specs.Records.{hear, support, handle}
 use Rattle.protocol.specs.Sending.{to_all}
 use Rattle.agreement.specs.Runs.{State, start, told, received, tell, deliver, Run, begun, after, spread}
-use Rattle.agreement.specs.Broadcasts.{alone, Happens}
+use Rattle.agreement.specs.Broadcasts.{alone, BroadcastHappens}
 use Rattle.agreement.proofs.Counts.{counted_lawful}
 
 -- the one message of each step
@@ -41,7 +41,7 @@ run =
     (deliver (letter Echo) [] (letter Ready ∷ []) correct (λ p. refl) (λ p. refl)))
     (deliver (letter Ready) [] [] correct (λ p. refl) (λ p. refl))
 
-pub happens : Happens last
+pub happens : BroadcastHappens last
 unfolding handle hear support below message
 happens = record {
   lawful = counted_lawful 1 0 1 1 1 (λ _. false) (omega arith) (omega arith) (record { meet = omega arith; echoes = omega arith; one_correct = omega arith; enough = omega arith; accepts = omega arith });

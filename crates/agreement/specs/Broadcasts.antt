@@ -26,12 +26,12 @@ pub record Broadcasts (w : World) (st : State) : Type 0 where
   pub delivery : Quiet w st → (s : Subject) (j b : ℕ) → Correct w (originator_of s) → Correct w j → st.said s ≡ Some b → accepted_at st j s ≡ Some b
 
 -- in every world that meets the facts, whatever the processes weigh
-abbrev pub Weighed : Type 0
-Weighed = (w : World) → Lawful w → (st : State) → Run w st → Broadcasts w st
+abbrev pub WeighedBroadcasts : Type 0
+WeighedBroadcasts = (w : World) → Lawful w → (st : State) → Run w st → Broadcasts w st
 
 -- and so where each of them weighs 1
-abbrev pub Counted : Type 0
-Counted = (n t echo ready accept : ℕ) (faulty : ℕ → Bool) → n ≤ 16 → below n faulty ≤ t → Sound n t echo ready accept → (st : State) → Run (counted n t echo ready accept faulty) st → Broadcasts (counted n t echo ready accept faulty) st
+abbrev pub CountedBroadcasts : Type 0
+CountedBroadcasts = (n t echo ready accept : ℕ) (faulty : ℕ → Bool) → n ≤ 16 → below n faulty ≤ t → Sound n t echo ready accept → (st : State) → Run (counted n t echo ready accept faulty) st → Broadcasts (counted n t echo ready accept faulty) st
 
 -- What was told, and what was accepted, stands.
 pub record Lasts (st next : State) : Type 0 where
@@ -45,7 +45,7 @@ Lasting = (w : World) (st next : State) → Turn w st next → Lasts st next
 abbrev pub alone : World
 alone = counted 1 0 1 1 1 (λ _. false)
 
-pub record Happens (st : State) : Type 0 where
+pub record BroadcastHappens (st : State) : Type 0 where
   pub lawful : Lawful alone
   pub run : Run alone st
   pub quiet : Quiet alone st

@@ -4,12 +4,12 @@
 
 ghost use Rattle.agreement.specs.Worlds.{Counting};
 ghost use Rattle.agreement.specs.Runs.{State};
-ghost use Rattle.agreement.specs.Broadcasts.{Weighed, Counted, Lasting, Happens};
+ghost use Rattle.agreement.specs.Broadcasts.{WeighedBroadcasts, CountedBroadcasts, Lasting, BroadcastHappens};
 
 // Correct processes accept alike, and what a correct one told. Once nothing waits for them, all of them have accepted.
 pub fn broadcast_stands()
-    ensures weighed { Weighed }
-    ensures counted { Counted }
+    ensures weighed { WeighedBroadcasts }
+    ensures counted { CountedBroadcasts }
 {}
 
 // No turn takes back what was told or accepted.
@@ -19,7 +19,7 @@ pub fn broadcast_lasts()
 
 // A lawful world has a run in which something is told and accepted.
 pub fn broadcast_happens()
-    ensures { (st : State) × Happens st }
+    ensures { (st : State) × BroadcastHappens st }
 {}
 
 // Counting processes is a weight, with any thresholds that meet the five facts.

@@ -11,17 +11,17 @@ use Rattle.protocol.specs.declared.votes.Kind.{Kind}
 use Rattle.protocol.specs.declared.votes.Kind.TheVariants.{First, Second, Third}
 use Rattle.consensus.specs.Rounds.{ahead, Allows}
 use Rattle.consensus.proofs.Sides.{both_sides, keep_ahead, release_ahead}
-use Rattle.ballots.specs.Tallies.{amount}
+use Rattle.ballots.specs.Tallies.{part}
 use Rattle.ballots.proofs.Counts.{total}
-use Rattle.ballots.specs.Votes.{after, takes}
+use Rattle.ballots.specs.Votes.{after}
 use Rattle.ballots.specs.declared.tallies.ByBallot.{ByBallot}
 
 -- n - t of the ballots that c counts, which allow b
 pub record Draw (n t : ℕ) (q : Kind) (c : ByBallot ℕ) (b : ℕ) : Type 0 where
   pub of : ByBallot ℕ
-  pub within : (d : Ballot) → amount of d ≤ amount c d
+  pub within : (d : Ballot) → part of d ≤ part c d
   pub size : total of ≡ n - t
-  pub allows : Allows n t q (amount of) b
+  pub allows : Allows n t q (part of) b
 
 -- a round of a kind has ballots of that kind only
 abbrev pub OfKind : Kind → ByBallot ℕ → Type 0
@@ -36,22 +36,22 @@ some_proposals : ℕ → ℕ → ℕ → ByBallot ℕ
 some_proposals k r o = record { keep = 0; release = 0; propose_keep = k; propose_release = r; «open» = o }
 
 module _ {n t : ℕ} {q : Kind} {c : ByBallot ℕ} {b : ℕ} where
-  votes_draw : (k r : ℕ) → k ≤ c.keep → r ≤ c.release → k + r ≡ n - t → Allows n t q (amount (some_votes k r)) b → Draw n t q c b
+  votes_draw : (k r : ℕ) → k ≤ c.keep → r ≤ c.release → k + r ≡ n - t → Allows n t q (part (some_votes k r)) b → Draw n t q c b
   unfolding some_votes
   votes_draw k r x y size allows = record { of = some_votes k r; within = within; size = omega (arith, size); allows = allows }
     where
-      within : (d : Ballot) → amount (some_votes k r) d ≤ amount c d
+      within : (d : Ballot) → part (some_votes k r) d ≤ part c d
       within Keep = x
       within Release = y
       within ProposeKeep = omega arith
       within ProposeRelease = omega arith
       within Open = omega arith
 
-  proposals_draw : (k r o : ℕ) → k ≤ c.propose_keep → r ≤ c.propose_release → o ≤ c.«open» → k + r + o ≡ n - t → Allows n t q (amount (some_proposals k r o)) b → Draw n t q c b
+  proposals_draw : (k r o : ℕ) → k ≤ c.propose_keep → r ≤ c.propose_release → o ≤ c.«open» → k + r + o ≡ n - t → Allows n t q (part (some_proposals k r o)) b → Draw n t q c b
   unfolding some_proposals
   proposals_draw k r o x y z size allows = record { of = some_proposals k r o; within = within; size = omega (arith, size); allows = allows }
     where
-      within : (d : Ballot) → amount (some_proposals k r o) d ≤ amount c d
+      within : (d : Ballot) → part (some_proposals k r o) d ≤ part c d
       within Keep = omega arith
       within Release = omega arith
       within ProposeKeep = x
@@ -62,26 +62,26 @@ module _ {n t : ℕ} {q : Kind} {c : ByBallot ℕ} {b : ℕ} where
 pub record Taken (a : ByBallot Bool) (b : ℕ) : Type 0 where
   pub is : Ballot
   pub number : b ≡ ballot_number is
-  pub allowed : takes a is ≡ true
+  pub allowed : part a is ≡ true
 
 module _ (n t : ℕ) where
-  drawn_first : (c : ByBallot ℕ) (b : Ballot) → takes (after n t First c) b ≡ true → Draw n t First c (ballot_number b)
+  drawn_first : (c : ByBallot ℕ) (b : Ballot) → part (after n t First c) b ≡ true → Draw n t First c (ballot_number b)
   unfolding after some_votes
   drawn_first c Keep e =
       let k = min c.keep (n - t) in
       let many : n - t ≤ c.keep + c.release = grind (arith, nat_tests) in
       let half : n - t ≤ 2 * k = grind (arith, nat_tests) in
-      votes_draw k (n - t - k) (omega arith) (omega arith) (omega arith) (sym (ap (λ v. ballot_number (vote v)) (keep_ahead (amount (some_votes k (n - t - k))) (omega arith))))
+      votes_draw k (n - t - k) (omega arith) (omega arith) (omega arith) (sym (ap (λ v. ballot_number (vote v)) (keep_ahead (part (some_votes k (n - t - k))) (omega arith))))
   drawn_first c Release e =
       let r = min c.release (n - t) in
       let many : n - t ≤ c.keep + c.release = grind (arith, nat_tests) in
       let half : n - t < 2 * r = grind (arith, nat_tests) in
-      votes_draw (n - t - r) r (omega arith) (omega arith) (omega arith) (sym (ap (λ v. ballot_number (vote v)) (release_ahead (amount (some_votes (n - t - r) r)) (omega arith))))
+      votes_draw (n - t - r) r (omega arith) (omega arith) (omega arith) (sym (ap (λ v. ballot_number (vote v)) (release_ahead (part (some_votes (n - t - r) r)) (omega arith))))
   drawn_first c ProposeKeep e = absurd cc
   drawn_first c ProposeRelease e = absurd cc
   drawn_first c Open e = absurd cc
 
-  drawn_second : (c : ByBallot ℕ) (b : Ballot) → takes (after n t Second c) b ≡ true → Draw n t Second c (ballot_number b)
+  drawn_second : (c : ByBallot ℕ) (b : Ballot) → part (after n t Second c) b ≡ true → Draw n t Second c (ballot_number b)
   unfolding after some_votes
   drawn_second c Keep e = absurd cc
   drawn_second c Release e = absurd cc
@@ -99,7 +99,7 @@ module _ (n t : ℕ) where
       let few = leb-true _ _ e in
       let k = min (min c.keep (n / 2)) (n - t) in
       let r = n - t - k in
-      votes_draw k r (omega arith) (omega arith) (omega arith) (inr (both_sides (λ v. 2 * amount (some_votes k r) (vote v) ≤ n) (omega arith) (omega arith), refl))
+      votes_draw k r (omega arith) (omega arith) (omega arith) (inr (both_sides (λ v. 2 * part (some_votes k r) (vote v) ≤ n) (omega arith) (omega arith), refl))
 
   -- neither side has more than t, and any may be said
   tossed_third : (c : ByBallot ℕ) (v : Side) → n - t ≤ min c.propose_keep t + min c.propose_release t + c.«open» → Draw n t Third c (ballot_number (vote v))
@@ -108,10 +108,10 @@ module _ (n t : ℕ) where
       let k = min (min c.propose_keep t) (n - t) in
       let r = min (min c.propose_release t) (n - t - k) in
       let o = n - t - k - r in
-      proposals_draw k r o (omega arith) (omega arith) (omega arith) (omega arith) (inr (both_sides (λ u. amount (some_proposals k r o) (proposal u) ≤ t) (omega arith) (omega arith), (v, refl)))
+      proposals_draw k r o (omega arith) (omega arith) (omega arith) (omega arith) (inr (both_sides (λ u. part (some_proposals k r o) (proposal u) ≤ t) (omega arith) (omega arith), (v, refl)))
 
   -- The side that is forced takes its own proposals first. One lemma for both sides is no shorter: the order of taking differs.
-  drawn_third : (c : ByBallot ℕ) (b : Ballot) → takes (after n t Third c) b ≡ true → Draw n t Third c (ballot_number b)
+  drawn_third : (c : ByBallot ℕ) (b : Ballot) → part (after n t Third c) b ≡ true → Draw n t Third c (ballot_number b)
   unfolding after some_proposals
   drawn_third c Keep e = ⊎_elim forced (λ x. tossed_third c side.Keep (leb-true _ _ x)) (or_cases _ _ e)
     where
@@ -137,7 +137,7 @@ module _ (n t : ℕ) where
   drawn_third c ProposeRelease e = absurd cc
   drawn_third c Open e = absurd cc
 
-  pub drawn : (q : Kind) (c : ByBallot ℕ) (b : Ballot) → takes (after n t q c) b ≡ true → Draw n t q c (ballot_number b)
+  pub drawn : (q : Kind) (c : ByBallot ℕ) (b : Ballot) → part (after n t q c) b ≡ true → Draw n t q c (ballot_number b)
   drawn First = drawn_first
   drawn Second = drawn_second
   drawn Third = drawn_third
@@ -154,23 +154,23 @@ module _ (n t : ℕ) where
         behind : d.of.keep < d.of.release → Taken (after n t First c) b
         behind l =
             let w = drawn_from d in
-            record { is = Release; number = d.allows ∙ ap (λ v. ballot_number (vote v)) (release_ahead (amount d.of) l); allowed = grind (arith, nat_tests) }
+            record { is = Release; number = d.allows ∙ ap (λ v. ballot_number (vote v)) (release_ahead (part d.of) l); allowed = grind (arith, nat_tests) }
 
         even : d.of.release ≤ d.of.keep → Taken (after n t First c) b
         even l =
             let w = drawn_from d in
-            record { is = Keep; number = d.allows ∙ ap (λ v. ballot_number (vote v)) (keep_ahead (amount d.of) l); allowed = grind (arith, nat_tests) }
+            record { is = Keep; number = d.allows ∙ ap (λ v. ballot_number (vote v)) (keep_ahead (part d.of) l); allowed = grind (arith, nat_tests) }
 
     taken_second : OfKind Second c → Draw n t Second c b → Taken (after n t Second c) b
     unfolding after
     taken_second none d =
         ⊎_elim (λ a. record { is = proposal a.0; number = a.2; allowed = most a.0 a.1 }) (λ a. record { is = Open; number = a.1; allowed = few a.0 }) d.allows
       where
-        most : (v : Side) → n < 2 * amount d.of (vote v) → takes (after n t Second c) (proposal v) ≡ true
+        most : (v : Side) → n < 2 * part d.of (vote v) → part (after n t Second c) (proposal v) ≡ true
         most side.Keep l = let w = drawn_from d in grind (arith, nat_tests)
         most side.Release l = let w = drawn_from d in grind (arith, nat_tests)
 
-        few : ((v : Side) → 2 * amount d.of (vote v) ≤ n) → takes (after n t Second c) Open ≡ true
+        few : ((v : Side) → 2 * part d.of (vote v) ≤ n) → part (after n t Second c) Open ≡ true
         few f =
             let w = drawn_from d in
             let k = f side.Keep in
@@ -182,18 +182,18 @@ module _ (n t : ℕ) where
     taken_third none d =
         ⊎_elim (λ a. record { is = vote a.0; number = a.2; allowed = forced a.0 a.1 }) (λ a. record { is = vote a.1.0; number = a.1.1; allowed = tossed a.1.0 a.0 }) d.allows
       where
-        forced : (v : Side) → t < amount d.of (proposal v) → takes (after n t Third c) (vote v) ≡ true
+        forced : (v : Side) → t < part d.of (proposal v) → part (after n t Third c) (vote v) ≡ true
         forced side.Keep l = let w = drawn_from d in grind (arith, nat_tests)
         forced side.Release l = let w = drawn_from d in grind (arith, nat_tests)
 
-        few : ((v : Side) → amount d.of (proposal v) ≤ t) → leb (n - t) (min c.propose_keep t + min c.propose_release t + c.«open») ≡ true
+        few : ((v : Side) → part d.of (proposal v) ≤ t) → leb (n - t) (min c.propose_keep t + min c.propose_release t + c.«open») ≡ true
         few f =
             let w = drawn_from d in
             let k = f side.Keep in
             let r = f side.Release in
             le-leb _ _ (omega arith)
 
-        tossed : (v : Side) → ((u : Side) → amount d.of (proposal u) ≤ t) → takes (after n t Third c) (vote v) ≡ true
+        tossed : (v : Side) → ((u : Side) → part d.of (proposal u) ≤ t) → part (after n t Third c) (vote v) ≡ true
         tossed side.Keep f = or_right _ _ (few f)
         tossed side.Release f = or_right _ _ (few f)
 

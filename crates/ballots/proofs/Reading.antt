@@ -8,11 +8,11 @@ use Rattle.plan.specs.declared.plans.Plan.{Plan}
 use Rattle.memory.specs.Contents.{Held}
 use Rattle.memory.specs.Places.{enough, within}
 use Rattle.protocol.specs.Phases.{kind}
-use Rattle.consensus.specs.Rounds.{Accepted}
+use Rattle.consensus.specs.Rounds.{BallotMap}
 use Rattle.consensus.specs.Validity.{Valid}
 use Rattle.ballots.specs.Places.{accepted_within, ballots_at, covers, valid_at, ValidRow}
-use Rattle.ballots.specs.Tallies.{cell, Holds, counts}
-use Rattle.ballots.specs.Votes.{after, beginning, sifted, votes, Exactly}
+use Rattle.ballots.specs.Tallies.{ballot_in, Holds, counts}
+use Rattle.ballots.specs.Votes.{after, beginning, sifted, valid_by_counting, Exactly}
 use Rattle.ballots.specs.declared.tallies.ByBallot.{ByBallot}
 use Rattle.ballots.proofs.Counts.{counts_past}
 use Rattle.ballots.proofs.Theorem.{exact}
@@ -37,34 +37,34 @@ pub record Covered (plan : Plan) (h : Held) (i c r : ℕ) : Type 0 where
   pub last : r ≤ 3 * plan.phases
   pub enough : enough plan h ≡ true
 
-pub votes_behind : (n t : ℕ) (G : Accepted) (r k : ℕ) → G k r ≡ None → votes n t G r k ≡ None
-unfolding votes
+pub votes_behind : (n t : ℕ) (G : BallotMap) (r k : ℕ) → G k r ≡ None → valid_by_counting n t G r k ≡ None
+unfolding valid_by_counting
 votes_behind n t G zero k e = ap (sifted beginning) e
-votes_behind n t G (suc r) k e = ap (sifted (after n t (kind r) (counts n (votes n t G r)))) e
+votes_behind n t G (suc r) k e = ap (sifted (after n t (kind r) (counts n (valid_by_counting n t G r)))) e
 
-pub holds_is : (g : ℕ → Option Ballot) (row : List (Option Ballot)) → Holds g row → cell row ≡ g
+pub holds_is : (g : ℕ → Option Ballot) (row : List (Option Ballot)) → Holds g row → ballot_in row ≡ g
 holds_is g row h = λ i k. h.each k i
 
 pub holds_alike : (f g : ℕ → Option Ballot) (row : List (Option Ballot)) → ((k : ℕ) → f k ≡ g k) → Holds f row → Holds g row
 holds_alike f g row e h = record { size = h.size; each = λ k. h.each k ∙ e k }
 
 -- the counts of a row are those of the processes of the plan
-pub counts_row : (n : ℕ) (g : ℕ → Option Ballot) (row : List (Option Ballot)) → n ≤ 16 → ((k : ℕ) → n ≤ k → g k ≡ None) → Holds g row → counts 16 (cell row) ≡ counts n g
+pub counts_row : (n : ℕ) (g : ℕ → Option Ballot) (row : List (Option Ballot)) → n ≤ 16 → ((k : ℕ) → n ≤ k → g k ≡ None) → Holds g row → counts 16 (ballot_in row) ≡ counts n g
 counts_row n g row l none h = ap (counts 16) (holds_is g row h) ∙ counts_past 16 n g l none
 
 module _ (plan : Plan) (h : Held) (i c : ℕ) where
   abbrev valid : ℕ → ℕ → Option Ballot
-  valid r = votes plan.n plan.t (ballots_at plan h i c) r
+  valid r = valid_by_counting plan.n plan.t (ballots_at plan h i c) r
 
   -- a round of the loop: the row of round r is counted, and what it allows is sifted from the round after
   pub next_row :
       (r : ℕ) (before row : List (Option Ballot)) (allowed : ByBallot Bool)
       → 1 ≤ r
       → Holds (valid (r - 1)) before
-      → allowed ≡ after plan.n plan.t (kind (r - 1)) (counts 16 (cell before))
+      → allowed ≡ after plan.n plan.t (kind (r - 1)) (counts 16 (ballot_in before))
       → Holds (λ k. sifted allowed (ballots_at plan h i c k (r + 1 - 1))) row
       → Holds (valid (r + 1 - 1)) row
-  unfolding votes
+  unfolding valid_by_counting
   next_row r before row allowed l x e y = holds_alike _ _ row each y
     where
       is : allowed ≡ after plan.n plan.t (kind (r - 1)) (counts plan.n (valid (r - 1)))

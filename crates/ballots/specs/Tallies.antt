@@ -7,32 +7,32 @@ use Rattle.protocol.specs.declared.votes.Ballot.TheVariants.{Keep, Release, Prop
 use Rattle.ballots.specs.declared.tallies.ByBallot.{ByBallot}
 
 -- the ballot of process k in a row
-abbrev pub cell : List (Option Ballot) → ℕ → Option Ballot
-cell row k = slice_index_or row k None
+abbrev pub ballot_in : List (Option Ballot) → ℕ → Option Ballot
+ballot_in row k = slice_index_or row k None
 
 -- a row of sixteen has the ballots that g gives
 pub record Holds (g : ℕ → Option Ballot) (row : List (Option Ballot)) : Type 0 where
   pub size : length row ≡ 16
-  pub each : (k : ℕ) → cell row k ≡ g k
+  pub each : (k : ℕ) → ballot_in row k ≡ g k
 
 -- whether it is this ballot
-abbrev pub says : Ballot → Option Ballot → Bool
-says b None = false
-says b (Some c) = ballot_number c == ballot_number b
+abbrev pub is_ballot : Ballot → Option Ballot → Bool
+is_ballot b None = false
+is_ballot b (Some c) = ballot_number c == ballot_number b
 
 -- how many processes below n have each ballot
 abbrev pub counts : ℕ → (ℕ → Option Ballot) → ByBallot ℕ
 counts n g = record {
-  keep = below n (λ k. says Keep (g k));
-  release = below n (λ k. says Release (g k));
-  propose_keep = below n (λ k. says ProposeKeep (g k));
-  propose_release = below n (λ k. says ProposeRelease (g k));
-  «open» = below n (λ k. says Open (g k));
+  keep = below n (λ k. is_ballot Keep (g k));
+  release = below n (λ k. is_ballot Release (g k));
+  propose_keep = below n (λ k. is_ballot ProposeKeep (g k));
+  propose_release = below n (λ k. is_ballot ProposeRelease (g k));
+  «open» = below n (λ k. is_ballot Open (g k));
 }
 
 -- the ballots of the members of S
-abbrev pub only : (ℕ → Bool) → (ℕ → Option Ballot) → ℕ → Option Ballot
-only S g k = cond (S k) (g k) None
+abbrev pub among : (ℕ → Bool) → (ℕ → Option Ballot) → ℕ → Option Ballot
+among S g k = cond (S k) (g k) None
 
 -- what there is of a ballot
 abbrev pub part : {T : Type 0} → ByBallot T → Ballot → T
@@ -41,7 +41,3 @@ part x Release = x.release
 part x ProposeKeep = x.propose_keep
 part x ProposeRelease = x.propose_release
 part x Open = x.«open»
-
--- how many a tally has of a ballot
-abbrev pub amount : ByBallot ℕ → Ballot → ℕ
-amount = part

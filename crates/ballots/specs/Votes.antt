@@ -5,7 +5,7 @@ use Rattle.protocol.specs.declared.votes.Ballot.{Ballot}
 use Rattle.protocol.specs.declared.votes.Kind.{Kind}
 use Rattle.protocol.specs.declared.votes.Kind.TheVariants.{First, Second, Third}
 use Rattle.protocol.specs.Phases.{kind}
-use Rattle.consensus.specs.Rounds.{Accepted}
+use Rattle.consensus.specs.Rounds.{BallotMap}
 use Rattle.consensus.specs.Validity.{Valid}
 use Rattle.ballots.specs.Tallies.{counts, part}
 use Rattle.ballots.specs.declared.tallies.ByBallot.{ByBallot}
@@ -57,13 +57,9 @@ after n t Third x = after_third t (n - t) x
 abbrev pub beginning : ByBallot Bool
 beginning = record { keep = true; release = true; propose_keep = false; propose_release = false; «open» = false }
 
--- whether a ballot is allowed
-abbrev pub takes : ByBallot Bool → Ballot → Bool
-takes = part
-
 abbrev pub passed : ByBallot Bool → Option Ballot → Option Ballot
 passed a None = None
-passed a (Some b) = cond (takes a b) (Some b) None
+passed a (Some b) = cond (part a b) (Some b) None
 
 -- a body, if it is a ballot and allowed
 abbrev pub sifted : ByBallot Bool → Option ℕ → Option Ballot
@@ -71,9 +67,9 @@ sifted a None = None
 sifted a (Some b) = passed a (ballot_of b)
 
 -- the valid ballots of a round, by process
-unfoldable pub votes : ℕ → ℕ → Accepted → ℕ → ℕ → Option Ballot
-votes n t G zero k = sifted beginning (G k zero)
-votes n t G (suc r) k = sifted (after n t (kind r) (counts n (votes n t G r))) (G k (suc r))
+unfoldable pub valid_by_counting : ℕ → ℕ → BallotMap → ℕ → ℕ → Option Ballot
+valid_by_counting n t G zero k = sifted beginning (G k zero)
+valid_by_counting n t G (suc r) k = sifted (after n t (kind r) (counts n (valid_by_counting n t G r))) (G k (suc r))
 
 -- o is the one ballot whose number V holds of, and it is none if V holds of no number
 pub record Exactly (V : ℕ → Type 0) (o : Option Ballot) : Type 0 where
@@ -81,5 +77,5 @@ pub record Exactly (V : ℕ → Type 0) (o : Option Ballot) : Type 0 where
   pub full : (b : ℕ) → V b → (c : Ballot) × (b ≡ ballot_number c) × (o ≡ Some c)
 
 -- Counting finds the valid ballots, for all numbers of processes and all that may have been accepted.
-abbrev pub Counted : Type 0
-Counted = (n t : ℕ) (G : Accepted) (r k : ℕ) → Exactly (Valid n t G r k) (votes n t G r k)
+abbrev pub CountingFinds : Type 0
+CountingFinds = (n t : ℕ) (G : BallotMap) (r k : ℕ) → Exactly (Valid n t G r k) (valid_by_counting n t G r k)

@@ -1,14 +1,14 @@
 // Counting the ballots of a round.
 ghost use Rattle.std.specs.Prelude.{◌≡◌, count_by};
-ghost use Rattle.ballots.specs.Tallies.{counts, says, cell};
-ghost use Rattle.ballots.specs.Votes.{Counted};
+ghost use Rattle.ballots.specs.Tallies.{counts, is_ballot, ballot_in};
+ghost use Rattle.ballots.specs.Votes.{CountingFinds};
 
 use crate::tallies::{RoundBallots, Tally};
 use protocol::Ballot;
 
 // How many a row has of each ballot.
 pub fn count(row: &RoundBallots) -> Tally
-    ensures { result ≡ counts 16 (cell row.now) }
+    ensures { result ≡ counts 16 (ballot_in row.now) }
 {
     Tally {
         keep: count_of(row, Ballot::Keep),
@@ -20,12 +20,12 @@ pub fn count(row: &RoundBallots) -> Tally
 }
 
 fn count_of(row: &RoundBallots, ballot: Ballot) -> u8
-    ensures { result ≡ count_by (says ballot) row.now }
+    ensures { result ≡ count_by (is_ballot ballot) row.now }
 {
     row.iter().filter(|cast| **cast == Some(ballot)).count() as u8
 }
 
 // Counting finds exactly the valid ballots, whatever was accepted. This function only carries the theorem.
 pub fn counting_is_exact()
-    ensures { Counted }
+    ensures { CountingFinds }
 {}

@@ -11,7 +11,7 @@ use Rattle.memory.specs.declared.records.BroadcastRecord.{BroadcastRecord}
 use Rattle.memory.specs.declared.records.Stage.{Stage}
 use Rattle.memory.specs.declared.records.Stage.TheVariants.{Silent, Echoed, Readied, Accepted}
 use Rattle.broadcast.specs.Hearing.{listened, agreeing, with_bodies}
-use Rattle.broadcast.specs.Receiving.{Outcome, outcome, heard, settled, handled}
+use Rattle.broadcast.specs.Receiving.{Outcome, outcome, heard, moved_on, handled}
 use Rattle.broadcast.specs.Stages.{nothing, turn, onward, put}
 use Rattle.broadcast.specs.declared.reactions.Reaction.{Reaction}
 
@@ -54,5 +54,5 @@ module _ (plan : Plan) (p : Place) (m : Message) (h : Held) where
       (λ i.
       outcome (record { broadcasts = put_is p.«record» (turn limits m count (stage_at after p.«record»)).next after.broadcasts r next i; bodies = after.bodies; cases = after.cases; serials = after.serials })
       (reaction i))
-      ∙ (λ i. settled (same i) p m (counted i) after)
-      ∙ ap (λ (x : Held). settled (thresholds_of plan.n plan.t) p m (agreeing plan.n p m m.step x.bodies) x) all
+      ∙ (λ i. moved_on (same i) p m (counted i) after)
+      ∙ ap (λ (x : Held). moved_on (thresholds_of plan.n plan.t) p m (agreeing plan.n p m m.step x.bodies) x) all

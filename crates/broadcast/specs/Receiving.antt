@@ -28,8 +28,8 @@ heard p m Readied xs = listened p m m.step xs
 heard p m (Accepted b) xs = xs
 
 -- the process goes on from its stage
-abbrev pub settled : Thresholds → Place → Message → ℕ → Held → Outcome
-settled limits p m count h =
+abbrev pub moved_on : Thresholds → Place → Message → ℕ → Held → Outcome
+moved_on limits p m count h =
     let t = turn limits m count (stage_at h p.«record») in
     outcome (record { broadcasts = put p.«record» t.next h.broadcasts; bodies = h.bodies; cases = h.cases; serials = h.serials }) t.reaction
 
@@ -37,7 +37,7 @@ settled limits p m count h =
 unfoldable pub handled : Plan → Place → Message → Held → Outcome
 handled plan p m h =
     let after = with_bodies (heard p m (stage_at h p.«record») h.bodies) h in
-    settled (thresholds_of plan.n plan.t) p m (agreeing plan.n p m m.step after.bodies) after
+    moved_on (thresholds_of plan.n plan.t) p m (agreeing plan.n p m m.step after.bodies) after
 
 -- whether the plan has process, sender and subject, and the memory is large enough
 abbrev pub admits : Plan → ℕ → Message → Held → Bool

@@ -29,26 +29,26 @@ on_initial own Readied = stay
 on_initial own (Accepted b) = stay
 
 -- what a process sends to be ready: an echo and a ready, each only once
-abbrev pub sends : Stage → Reaction
-sends Silent = record { echo = true; ready = true; accepted = false }
-sends Echoed = record { echo = false; ready = true; accepted = false }
-sends Readied = nothing
-sends (Accepted b) = nothing
+abbrev pub ready_sends : Stage → Reaction
+ready_sends Silent = record { echo = true; ready = true; accepted = false }
+ready_sends Echoed = record { echo = false; ready = true; accepted = false }
+ready_sends Readied = nothing
+ready_sends (Accepted b) = nothing
 
 -- enough echoes make a process ready
-abbrev pub on_echo : Bool → Stage → Turned
-on_echo enough s = cond enough (record { next = Some Readied; reaction = sends s }) stay
+abbrev pub made_ready : Bool → Stage → Turned
+made_ready enough s = cond enough (record { next = Some Readied; reaction = ready_sends s }) stay
 
 abbrev pub accept : ℕ → Turned → Turned
 accept b t = record { next = Some (Accepted b); reaction = record { echo = t.reaction.echo; ready = t.reaction.ready; accepted = true } }
 
 -- enough readies make it ready too, and then a full number of them makes it accept
 abbrev pub on_ready : Bool → Bool → ℕ → Stage → Turned
-on_ready enough full b s = let t = on_echo enough s in cond full (accept b t) t
+on_ready enough full b s = let t = made_ready enough s in cond full (accept b t) t
 
 abbrev pub by_step : Thresholds → Message → ℕ → Stage → Step → Turned
 by_step limits m count s Initial = on_initial (m.sender == originator_of m.subject) s
-by_step limits m count s Echo = on_echo (nat_le limits.echo count) s
+by_step limits m count s Echo = made_ready (nat_le limits.echo count) s
 by_step limits m count s Ready = on_ready (nat_le limits.ready count) (nat_le limits.accept count) m.body s
 
 -- message m at a stage, where `count` echoes or readies of its body were heard; a process that has accepted does no more

@@ -2,7 +2,7 @@
 ghost use Rattle.std.specs.Prelude.{◌≡◌, ◌+◌, ◌<◌, ◌≤◌, length, None, count_by};
 ghost use Rattle.memory.specs.Contents.{held, accepted_body};
 ghost use Rattle.broadcast.specs.Hearing.{hear, says, listened, agreeing, with_bodies};
-ghost use Rattle.broadcast.specs.Stages.{sends, turn, onward};
+ghost use Rattle.broadcast.specs.Stages.{ready_sends, turn, onward};
 ghost use Rattle.broadcast.specs.Receiving.{outcome, received};
 
 use crate::reactions::Reaction;
@@ -111,7 +111,7 @@ fn turn_stage(
 
 // What a process that is to be ready has yet to send.
 fn sending(stage: Stage) -> Reaction
-    ensures { result ≡ sends stage }
+    ensures { result ≡ ready_sends stage }
 {
     match stage {
         Stage::Silent => Reaction {

@@ -19,14 +19,14 @@ pub record Added (m : Message) (capacity : ℕ) (before after : List Message) : 
   pub same : Same after (m ∷ before)
 
 -- there was no room, and nothing changed
-pub record Full (e : Refusal) (capacity : ℕ) (before after : List Message) : Type 0 where
+pub record NoneFree (e : Refusal) (capacity : ℕ) (before after : List Message) : Type 0 where
   pub why : e ≡ NoRoom
   pub full : capacity ≤ length before
   pub same : after ≡ before
 
 abbrev pub Posted : Result (Unit {0}) Refusal → Message → ℕ → List Message → List Message → Type 0
 Posted (Ok _) m capacity before after = Added m capacity before after
-Posted (Err e) m capacity before after = Full e capacity before after
+Posted (Err e) m capacity before after = NoneFree e capacity before after
 
 -- the message waited for the process, and the others still wait
 pub record Removed (m : Message) (process : ℕ) (before after : List Message) : Type 0 where

@@ -12,18 +12,18 @@ use Rattle.memory.specs.Contents.{Held, case_at}
 use Rattle.memory.specs.declared.records.CaseRecord.{CaseRecord}
 use Rattle.memory.specs.Places.{case_place, case_place_of}
 use Rattle.protocol.specs.Phases.{kind}
-use Rattle.consensus.specs.Rounds.{Accepted}
+use Rattle.consensus.specs.Rounds.{BallotMap}
 use Rattle.consensus.specs.Validity.{Valid, Quorum, lowest}
 use Rattle.consensus.proofs.Advancing.{advances}
 use Rattle.ballots.specs.Places.{ballots_at, covers, valid_at}
-use Rattle.ballots.specs.Tallies.{cell, counts, amount, only, Holds}
+use Rattle.ballots.specs.Tallies.{ballot_in, counts, part, among, Holds}
 use Rattle.ballots.specs.Votes.{Exactly}
 use Rattle.ballots.specs.declared.tallies.ByBallot.{ByBallot}
 use Rattle.ballots.proofs.Counts.{counts_past}
 use Rattle.ballots.proofs.Reading.{covered, holds_is, votes_behind, none_behind}
 use Rattle.ballots.proofs.Sets.{amount_alike}
 use Rattle.ballots.proofs.Theorem.{exact}
-use Rattle.cases.specs.Steps.{stands, round_at, voters, may_advance, chosen, chosen_counts, step_by, step_at, Says, Law}
+use Rattle.cases.specs.Steps.{stands, round_at, voters, may_advance, chosen, chosen_counts, step_by, step_at, Says, FollowsBallots}
 use Rattle.cases.specs.declared.steps.Step.{Step}
 use Rattle.cases.proofs.Lowest.{none_chosen}
 use Rattle.cases.proofs.Sides.{says}
@@ -33,7 +33,7 @@ some_stands None e = absurd cc
 some_stands (Some b) e = (b, refl)
 
 module _ (plan : Plan) (h : Held) (i c : ℕ) where
-  abbrev G : Accepted
+  abbrev G : BallotMap
   G = ballots_at plan h i c
 
   abbrev r : ℕ
@@ -65,13 +65,13 @@ module _ (plan : Plan) (h : Held) (i c : ℕ) where
     row_voters : count_by is_some row ≡ below plan.n (voters plan h i c)
     row_voters = count_places is_some None row 16 held_row.size ∙ ap (λ (g : ℕ → Option Ballot). below 16 (stands g)) (holds_is _ row held_row) ∙ below_past 16 plan.n (voters plan h i c) plan.few (λ k l. ap is_some (behind k l))
 
-    row_counts : (picked : List (Option Ballot)) → covers plan h i c r ≡ true → Holds (only (lowest (plan.n - plan.t) (stands (cell row))) (cell row)) picked → amount (counts 16 (cell picked)) ≡ chosen_counts plan h i c
+    row_counts : (picked : List (Option Ballot)) → covers plan h i c r ≡ true → Holds (among (lowest (plan.n - plan.t) (stands (ballot_in row))) (ballot_in row)) picked → part (counts 16 (ballot_in picked)) ≡ chosen_counts plan h i c
     unfolding lowest
     row_counts picked e x =
         let S = chosen plan h i c in
         let g = valid_at plan h i c r in
-        ap (λ (f : ℕ → Option Ballot). amount (counts 16 f)) (holds_is _ picked x ∙ ap (λ (f : ℕ → Option Ballot). only (lowest (plan.n - plan.t) (stands f)) f) (holds_is _ row held_row))
-        ∙ ap amount (counts_past 16 plan.n (only S g) plan.few (λ k l. none_chosen (S k) (g k) (behind k l)))
+        ap (λ (f : ℕ → Option Ballot). part (counts 16 f)) (holds_is _ picked x ∙ ap (λ (f : ℕ → Option Ballot). among (lowest (plan.n - plan.t) (stands f)) f) (holds_is _ row held_row))
+        ∙ ap part (counts_past 16 plan.n (among S g) plan.few (λ k l. none_chosen (S k) (g k) (behind k l)))
         ∙ amount_alike plan.n plan.t G (r - 1) g (voters_exact e) S (λ k l m. some_stands (g k) (and_parts (voters plan h i c k) _ m).0)
 
   -- the code's way: a round that was read, a row, and the ballots that were chosen from it
@@ -91,13 +91,13 @@ module _ (plan : Plan) (h : Held) (i c : ℕ) where
     pub goes :
         (picked : List (Option Ballot)) (x : ByBallot ℕ) (s : Step)
         → m ≤ count_by is_some row
-        → Holds (only (lowest m (stands (cell row))) (cell row)) picked
-        → x ≡ counts 16 (cell picked)
-        → s ≡ step_by plan.n plan.t (kind (q - 1)) (amount x)
+        → Holds (among (lowest m (stands (ballot_in row))) (ballot_in row)) picked
+        → x ≡ counts 16 (ballot_in picked)
+        → s ≡ step_by plan.n plan.t (kind (q - 1)) (part x)
         → Some s ≡ step_at plan h i c
     goes picked x s l y e f =
-        let y_here = subst (λ (p : ℕ). Holds (only (lowest p (stands (cell row))) (cell row)) picked) size y in
-        let counted = ap amount e ∙ row_counts row here picked (many_covered (many l)) y_here in
+        let y_here = subst (λ (p : ℕ). Holds (among (lowest p (stands (ballot_in row))) (ballot_in row)) picked) size y in
+        let counted = ap part e ∙ row_counts row here picked (many_covered (many l)) y_here in
         ap Some (f ∙ (λ j. step_by plan.n plan.t (kind (now j - 1)) (counted j)))
         ∙ sym (cond-true (may_advance plan h i c) _ None (and_from _ _ (many_covered (many l)) (le-leb _ _ (many l))))
 
@@ -125,7 +125,7 @@ module _ (plan : Plan) (h : Held) (i c : ℕ) where
   none_full : may_advance plan h i c ≡ false → covers plan h i c r ≡ true → (S : ℕ → Bool) → Quorum plan.n plan.t G (r - 1) S → ⊥
   none_full e is S full = ⊎_elim (λ x. both_ways _ x is) (λ x. omega (arith, full.size, leb-false _ _ x, below_monotone plan.n S (voters plan h i c) (λ k l m. let v = full.member k l m in valid_voter is k v.0 v.1))) (and_cases (covers plan h i c r) (leb (plan.n - plan.t) (below plan.n (voters plan h i c))) e)
 
-  law_at : Law plan h i c (step_at plan h i c)
+  law_at : FollowsBallots plan h i c (step_at plan h i c)
   law_at = record {
     voting = valid_voter;
     valid = voter_valid;
@@ -134,5 +134,5 @@ module _ (plan : Plan) (h : Held) (i c : ℕ) where
     none = λ e. none_full (may_none (may_advance plan h i c) e);
   }
 
-  pub law : (o : Option Step) → o ≡ step_at plan h i c → Law plan h i c o
-  law o e = subst (Law plan h i c) (sym e) law_at
+  pub law : (o : Option Step) → o ≡ step_at plan h i c → FollowsBallots plan h i c o
+  law o e = subst (FollowsBallots plan h i c) (sym e) law_at

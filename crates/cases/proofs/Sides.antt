@@ -10,7 +10,7 @@ use Rattle.protocol.specs.declared.votes.Ballot.TheVariants.{Open}
 use Rattle.protocol.specs.declared.votes.Kind.{Kind}
 use Rattle.protocol.specs.declared.votes.Kind.TheVariants.{First, Second, Third}
 use Rattle.protocol.specs.Phases.{kind}
-use Rattle.consensus.specs.Rounds.{Accepted, tally, Allows}
+use Rattle.consensus.specs.Rounds.{BallotMap, tally, Allows}
 use Rattle.consensus.specs.Validity.{Quorum}
 use Rattle.consensus.proofs.Sides.{both_sides}
 use Rattle.cases.specs.Steps.{side_above, forced_side, proposed, voted, step_by, Says}
@@ -82,7 +82,7 @@ module _ (count : Ballot → ℕ) where
     next_undecided Third x e = above_none (2 * t) e
 
 -- the step of a full set says what the set says
-pub says : (n t : ℕ) (G : Accepted) (q : ℕ) (S : ℕ → Bool) → Quorum n t G q S → Says n t G q S (step_by n t (kind q) (tally n G q S))
+pub says : (n t : ℕ) (G : BallotMap) (q : ℕ) (S : ℕ → Bool) → Quorum n t G q S → Says n t G q S (step_by n t (kind q) (tally n G q S))
 says n t G q S full =
     let count = tally n G q S in
     record {

@@ -13,7 +13,7 @@ use Rattle.memory.specs.Places.{case_place}
 use Rattle.protocol.specs.declared.votes.Kind.{Kind}
 use Rattle.protocol.specs.declared.votes.Kind.TheVariants.{First, Second, Third}
 use Rattle.protocol.specs.Phases.{kind}
-use Rattle.consensus.specs.Rounds.{Accepted, tally, Forces, Decides, ahead, Allows}
+use Rattle.consensus.specs.Rounds.{BallotMap, tally, Forces, Decides, ahead, Allows}
 use Rattle.consensus.specs.Validity.{Valid, Quorum, lowest}
 use Rattle.ballots.specs.Places.{ballots_at, covers, valid_at}
 use Rattle.cases.specs.declared.steps.Step.{Step}
@@ -82,7 +82,7 @@ module _ (plan : Plan) (h : Held) (i c : ℕ) where
   step_at = cond may_advance (Some (step_by plan.n plan.t (kind (round_at - 1)) chosen_counts)) None
 
 -- S is a full set of valid ballots of round q in G, and a process that goes by it goes on by s
-pub record Says (n t : ℕ) (G : Accepted) (q : ℕ) (S : ℕ → Bool) (s : Step) : Type 0 where
+pub record Says (n t : ℕ) (G : BallotMap) (q : ℕ) (S : ℕ → Bool) (s : Step) : Type 0 where
   pub quorum : Quorum n t G q S
   pub next : (b : Ballot) → s.next ≡ Some b → Allows n t (kind q) (tally n G q S) (ballot_number b)
   -- where the coin is tossed, either side may be said
@@ -93,7 +93,7 @@ pub record Says (n t : ℕ) (G : Accepted) (q : ℕ) (S : ℕ → Bool) (s : Ste
   pub undecided : kind q ≡ Third → s.decides ≡ None → (v : Side) → tally n G q S (proposal v) ≤ 2 * t
 
 -- o is how process i goes on in case c: by the lowest that have valid ballots, if there is any full set
-pub record Law (plan : Plan) (h : Held) (i c : ℕ) (o : Option Step) : Type 0 where
+pub record FollowsBallots (plan : Plan) (h : Held) (i c : ℕ) (o : Option Step) : Type 0 where
   pub voting : covers plan h i c (round_at plan h i c) ≡ true → (k b : ℕ) → Valid plan.n plan.t (ballots_at plan h i c) (round_at plan h i c - 1) k b → voters plan h i c k ≡ true
   pub valid : (k : ℕ) → voters plan h i c k ≡ true → (b : ℕ) × Valid plan.n plan.t (ballots_at plan h i c) (round_at plan h i c - 1) k b
   pub covered : (s : Step) → o ≡ Some s → covers plan h i c (round_at plan h i c) ≡ true

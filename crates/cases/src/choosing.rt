@@ -2,8 +2,8 @@
 ghost use Rattle.std.specs.Prelude.{◌≡◌, count_by, is_some};
 ghost use Rattle.memory.specs.Contents.{held};
 ghost use Rattle.consensus.specs.Validity.{lowest};
-ghost use Rattle.ballots.specs.Tallies.{cell, only, Holds};
-ghost use Rattle.cases.specs.Steps.{stands, step_at, Law};
+ghost use Rattle.ballots.specs.Tallies.{ballot_in, among, Holds};
+ghost use Rattle.cases.specs.Steps.{stands, step_at, FollowsBallots};
 
 use crate::saying::step_by;
 use crate::steps::Step;
@@ -18,7 +18,7 @@ use std::array;
 // the plan has not the process or the case, or the memory is too small for the plan.
 pub fn next_step(plan: &Plan, memory: &Memory, process: u64, case: u64) -> Option<Step>
     ensures value { result ≡ step_at plan.now (held memory.now) process case }
-    ensures law { Law plan.now (held memory.now) process case result }
+    ensures law { FollowsBallots plan.now (held memory.now) process case result }
 {
     let place = case_place(plan, process, case)?;
     let round = u64::from(memory.case_record(place).round);
@@ -39,7 +39,7 @@ fn count_all(row: &[Option<Ballot>]) -> usize
 
 // The first m ballots of a row.
 fn choose_lowest(row: &RoundBallots, m: usize) -> RoundBallots
-    ensures { Holds (only (lowest m (stands (cell row.now))) (cell row.now)) result }
+    ensures { Holds (among (lowest m (stands (ballot_in row.now))) (ballot_in row.now)) result }
 {
     array::from_fn(|k| row[k].filter(|_| count_all(&row[..k]) < m))
 }

@@ -2,7 +2,7 @@
 ghost use Rattle.std.specs.Prelude.{◌≡◌};
 ghost use Rattle.protocol.specs.Phases.{kind};
 ghost use Rattle.consensus.specs.Rounds.{ahead};
-ghost use Rattle.ballots.specs.Tallies.{amount};
+ghost use Rattle.ballots.specs.Tallies.{part};
 ghost use Rattle.cases.specs.Steps.{proposed, over, saying, third_step, step_by};
 
 use crate::steps::Step;
@@ -13,7 +13,7 @@ use protocol::{Ballot, Kind, Side};
 // By a set of ballots of a round. Rounds count from 0 here.
 #[tactic(auto, unfolding(crate::specs::Steps::step_by))]
 pub(crate) fn step_by(plan: &Plan, round: u64, tally: Tally) -> Step
-    ensures { result ≡ step_by plan.now.n plan.now.t (kind round) (amount tally) }
+    ensures { result ≡ step_by plan.now.n plan.now.t (kind round) (part tally) }
 {
     match Kind::of_round(round) {
         Kind::First => saying(Ballot::vote(side_ahead(tally))),
@@ -33,7 +33,7 @@ fn saying(ballot: Ballot) -> Step
 }
 
 fn side_ahead(tally: Tally) -> Side
-    ensures { result ≡ ahead (amount tally) }
+    ensures { result ≡ ahead (part tally) }
 {
     if tally.release > tally.keep {
         Side::Release
@@ -44,7 +44,7 @@ fn side_ahead(tally: Tally) -> Side
 
 // A proposal of the side that more than half of all n voted for, or open.
 fn proposed(plan: &Plan, tally: Tally) -> Ballot
-    ensures { result ≡ proposed plan.now.n (amount tally) }
+    ensures { result ≡ proposed plan.now.n (part tally) }
 {
     let keep = 2 * u64::from(tally.keep);
     let release = 2 * u64::from(tally.release);
@@ -52,7 +52,7 @@ fn proposed(plan: &Plan, tally: Tally) -> Ballot
 }
 
 fn third_step(plan: &Plan, tally: Tally) -> Step
-    ensures { result ≡ third_step plan.now.t (amount tally) }
+    ensures { result ≡ third_step plan.now.t (part tally) }
 {
     let keep = u64::from(tally.propose_keep);
     let release = u64::from(tally.propose_release);

@@ -7,17 +7,17 @@ use Rattle.protocol.specs.declared.votes.Side.{Side}
 use Rattle.protocol.specs.Numbers.{ballot_number, vote}
 use Rattle.protocol.specs.declared.votes.Kind.TheVariants.{Third}
 use Rattle.protocol.specs.Phases.{kind}
-use Rattle.consensus.specs.Rounds.{Accepted, tally, Forces, Decides, Allows}
+use Rattle.consensus.specs.Rounds.{BallotMap, tally, Forces, Decides, Allows}
 use Rattle.protocol.specs.Faults.{CorrectOf}
 use Rattle.consensus.specs.Validity.{Quorum, Justified, Part, Resilient}
 use Rattle.consensus.specs.Decisions.{Tossed}
-use Rattle.consensus.specs.Maps.{Decisions, Decided}
+use Rattle.consensus.specs.Maps.{OwnDecisions, DecidesBy}
 use Rattle.consensus.specs.Accounts.{Left, Account, Outcomes}
 use Rattle.consensus.proofs.Sides.{third_late}
 use Rattle.consensus.proofs.Steps.{all_kept}
 use Rattle.consensus.proofs.Joins.{decisions, going}
 
-empty_forces : (n t : ℕ) (A : Accepted) (r : ℕ) (v : Side) → Forces t (tally n A r (λ _. false)) v → ⊥
+empty_forces : (n t : ℕ) (A : BallotMap) (r : ℕ) (v : Side) → Forces t (tally n A r (λ _. false)) v → ⊥
 unfolding tally
 empty_forces n t A r v f = omega (arith, (below_measure n).empty)
 
@@ -27,11 +27,11 @@ module _ (n : ℕ) (faulty : ℕ → Bool) where
       ⊎_elim (λ (l : o < n). ⊎_elim (λ (e : faulty o ≡ true). inr (λ c. both_ways _ c.1 e)) (λ (e : faulty o ≡ false). inl (l, e)) (cases_Bool (faulty o))) (λ (l : n ≤ o). inr (λ c. omega (arith, c.0)))
       (cases_lt o n)
 
-module _ (n t last : ℕ) (faulty : ℕ → Bool) (coin : ℕ → ℕ → Side) (own : ℕ → Accepted) (said : ℕ → ℕ → Option ℕ) (rounds : ℕ → ℕ) (forced decided : ℕ → ℕ → Side → Type 0) (law : Resilient n t faulty) (account : Account n t last faulty coin own said rounds forced decided) where
-  all : Decisions n t faulty own
+module _ (n t last : ℕ) (faulty : ℕ → Bool) (coin : ℕ → ℕ → Side) (own : ℕ → BallotMap) (said : ℕ → ℕ → Option ℕ) (rounds : ℕ → ℕ) (forced decided : ℕ → ℕ → Side → Type 0) (law : Resilient n t faulty) (account : Account n t last faulty coin own said rounds forced decided) where
+  all : OwnDecisions n t faulty own
   all = decisions n t faulty own law account.alike
 
-  decides : (i q : ℕ) (u : Side) (ci : CorrectOf n faulty i) (lt : suc q < rounds i) → decided i q u → Decided n t own i q (account.left i q ci lt).by u
+  decides : (i q : ℕ) (u : Side) (ci : CorrectOf n faulty i) (lt : suc q < rounds i) → decided i q u → DecidesBy n t own i q (account.left i q ci lt).by u
   decides i q u ci lt e = let l = account.left i q ci lt in record { third = l.third u e; quorum = l.quorum; decides = l.decides u e }
 
   agree : (i j q r : ℕ) (u v : Side) → CorrectOf n faulty i → CorrectOf n faulty j → suc q < rounds i → suc r < rounds j → decided i q u → decided j r v → u ≡ v
@@ -101,7 +101,7 @@ module _ (n t last : ℕ) (faulty : ℕ → Bool) (coin : ℕ → ℕ → Side) 
   }
 
 -- what a process may say, and how it left a round, stands when it accepts more
-module _ (n t : ℕ) (A B : Accepted) (part : Part A B) where
+module _ (n t : ℕ) (A B : BallotMap) (part : Part A B) where
   same_tally : (q : ℕ) (S : ℕ → Bool) → Quorum n t A q S → tally n A q S ≡ tally n B q S
   same_tally q S full = λ i b. (all_kept n t A B part q).tallies S full b i
 

@@ -10,11 +10,11 @@ use Rattle.protocol.specs.Numbers.{vote, proposal}
 use Rattle.protocol.specs.declared.votes.Kind.{Kind}
 use Rattle.protocol.specs.declared.votes.Kind.TheVariants.{First, Second, Third}
 use Rattle.protocol.specs.Phases.{kind}
-use Rattle.consensus.specs.Rounds.{Accepted, tally, Allows}
+use Rattle.consensus.specs.Rounds.{BallotMap, tally, Allows}
 use Rattle.agreement.proofs.Counts.{below_all, below_measure}
 use Rattle.protocol.specs.Faults.{CorrectOf}
 use Rattle.consensus.specs.Validity.{Valid, lowest, Resilient}
-use Rattle.consensus.specs.Decisions.{Advances}
+use Rattle.consensus.specs.Decisions.{CanAdvance}
 use Rattle.consensus.proofs.Sides.{both_sides}
 
 one_lowest : (m c d : ℕ) (b : Bool) → d ≡ min m c → cond (b && ltb c m) 1 0 + d ≡ min m (cond b 1 0 + c)
@@ -38,7 +38,7 @@ allows_some n t Second count = ⊎_elim (λ x. (_, inl (x.0, x.1, refl))) (λ x.
 allows_some n t Third count = ⊎_elim (λ x. (_, inl (x.0, x.1, refl))) (λ x. (_, inr (x, (Keep, refl)))) (pick t (λ v. count (proposal v)))
 
 module _ (n t : ℕ) where
-  pub advances : (A : Accepted) (r : ℕ) (p : ℕ → Bool) → ((k : ℕ) → k < n → p k ≡ true → (b : ℕ) × Valid n t A r k b) → n - t ≤ below n p → Advances n t A r (lowest (n - t) p)
+  pub advances : (A : BallotMap) (r : ℕ) (p : ℕ → Bool) → ((k : ℕ) → k < n → p k ≡ true → (b : ℕ) × Valid n t A r k b) → n - t ≤ below n p → CanAdvance n t A r (lowest (n - t) p)
   unfolding lowest
   advances A r p valid many = record {
     quorum = record {
@@ -52,6 +52,6 @@ module _ (n t : ℕ) where
   correct_many faulty few =
       omega (arith, below_all n, (below_measure n).modular faulty (λ k. not (faulty k)), (below_measure n).monotone (λ _. true) (λ k. faulty k || not (faulty k)) (λ k l e. or-not_self (faulty k)))
 
-  pub enough : (faulty : ℕ → Bool) → Resilient n t faulty → (A : Accepted) (r : ℕ) → ((k : ℕ) → CorrectOf n faulty k → (b : ℕ) × Valid n t A r k b) → (S : ℕ → Bool) × Advances n t A r S
+  pub enough : (faulty : ℕ → Bool) → Resilient n t faulty → (A : BallotMap) (r : ℕ) → ((k : ℕ) → CorrectOf n faulty k → (b : ℕ) × Valid n t A r k b) → (S : ℕ → Bool) × CanAdvance n t A r S
   enough faulty law A r valid =
       (lowest (n - t) (λ k. not (faulty k)), advances A r (λ k. not (faulty k)) (λ k l e. valid k (l, not-true _ e)) (correct_many faulty law.few))

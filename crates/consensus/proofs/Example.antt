@@ -7,16 +7,16 @@ use Rattle.protocol.specs.Counting.{below}
 use Rattle.protocol.specs.Numbers.{ballot_number}
 use Rattle.agreement.proofs.Bodies.{some_once}
 use Rattle.protocol.specs.Phases.{kind}
-use Rattle.consensus.specs.Rounds.{Accepted, tally, Allows, Decides, ballot_for}
+use Rattle.consensus.specs.Rounds.{BallotMap, tally, Allows, Decides, ballot_for}
 use Rattle.consensus.specs.Validity.{Valid, Quorum}
-use Rattle.consensus.specs.Decisions.{Happens}
+use Rattle.consensus.specs.Decisions.{DecisionHappens}
 use Rattle.consensus.proofs.Tallies.{held}
 
 module _ (v : Side) where
   abbrev body : ℕ → ℕ
   body r = ballot_number (ballot_for (kind r) v)
 
-  abbrev pub ballots : Accepted
+  abbrev pub ballots : BallotMap
   ballots o r = cond (eqb o 3) None (Some (body r))
 
 abbrev pub three : ℕ → Bool
@@ -57,7 +57,7 @@ opened : (v : Side) (k : ℕ) → three k ≡ true → Valid 4 1 (ballots v) 0 k
 unfolding Valid
 opened v k e = (spoken v k 0 e, (v, refl))
 
-pub happens : (v : Side) → Happens v (ballots v) three
+pub happens : (v : Side) → DecisionHappens v (ballots v) three
 unfolding below
 happens v = record {
   resilient = record { few = omega arith; third = omega arith };

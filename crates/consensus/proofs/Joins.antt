@@ -6,11 +6,11 @@ use Rattle.protocol.specs.declared.votes.Side.{Side}
 use Rattle.protocol.specs.Numbers.{proposal}
 use Rattle.protocol.specs.declared.votes.Kind.TheVariants.{Third}
 use Rattle.protocol.specs.Phases.{kind}
-use Rattle.consensus.specs.Rounds.{Accepted, tally}
+use Rattle.consensus.specs.Rounds.{BallotMap, tally}
 use Rattle.protocol.specs.Faults.{CorrectOf}
 use Rattle.consensus.specs.Validity.{Quorum, Justified, Part, Resilient}
-use Rattle.consensus.specs.Decisions.{Kept, Settled, Unanimous, Advances}
-use Rattle.consensus.specs.Maps.{Alike, Joins, Decided, Votes, Lucky, Decisions}
+use Rattle.consensus.specs.Decisions.{Grown, Settled, Unanimous, CanAdvance}
+use Rattle.consensus.specs.Maps.{AcceptedAlike, Joins, DecidesBy, Votes, Lucky, OwnDecisions}
 use Rattle.consensus.proofs.Tallies.{held}
 use Rattle.consensus.proofs.Steps.{all_kept, one_side}
 use Rattle.consensus.proofs.Advancing.{enough}
@@ -37,8 +37,8 @@ choose_from true o rest b e = inr e
 choose_from false None rest b e = inr e
 choose_from false (Some d) rest b e = inl (refl, e)
 
-module _ (faulty : ℕ → Bool) (own : ℕ → Accepted) where
-  joined : ℕ → Accepted
+module _ (faulty : ℕ → Bool) (own : ℕ → BallotMap) where
+  joined : ℕ → BallotMap
   joined zero o r = None
   joined (suc m) o r = choose (faulty m) (own m o r) (joined m o r)
 
@@ -56,8 +56,8 @@ module _ (faulty : ℕ → Bool) (own : ℕ → Accepted) where
   joined_from (suc m) o r b e =
       ⊎_elim (λ x. (m, (omega arith, x.0), x.1)) (λ x. let k = joined_from m o r b x in (k.0, (omega (arith, k.1.0), k.1.1), k.2)) (choose_from (faulty m) (own m o r) (joined m o r) b e)
 
-module _ (n : ℕ) (faulty : ℕ → Bool) (own : ℕ → Accepted) (alike : Alike n faulty own) where
-  whole : Accepted
+module _ (n : ℕ) (faulty : ℕ → Bool) (own : ℕ → BallotMap) (alike : AcceptedAlike n faulty own) where
+  whole : BallotMap
   whole = joined faulty own n
 
   joins : Joins n faulty own whole
@@ -70,11 +70,11 @@ module _ (n : ℕ) (faulty : ℕ → Bool) (own : ℕ → Accepted) (alike : Ali
     from = joined_from faulty own n;
   }
 
-  pub join : (G : Accepted) × Joins n faulty own G
+  pub join : (G : BallotMap) × Joins n faulty own G
   join = (whole, joins)
 
-module _ (n t : ℕ) (faulty : ℕ → Bool) (own : ℕ → Accepted) (law : Resilient n t faulty) (G : Accepted) (join : Joins n faulty own G) where
-  kept : (i r : ℕ) → CorrectOf n faulty i → Kept n t (own i) G r
+module _ (n t : ℕ) (faulty : ℕ → Bool) (own : ℕ → BallotMap) (law : Resilient n t faulty) (G : BallotMap) (join : Joins n faulty own G) where
+  kept : (i r : ℕ) → CorrectOf n faulty i → Grown n t (own i) G r
   kept i r ci = all_kept n t (own i) G (join.part i ci) r
 
   unanimous : (r : ℕ) (v : Side) → Votes n faulty own r v → Unanimous n t faulty G r v
@@ -82,18 +82,18 @@ module _ (n t : ℕ) (faulty : ℕ → Bool) (own : ℕ → Accepted) (law : Res
 
   -- by an own set, what is settled is decided, and nothing else
   module _ (q i : ℕ) (S : ℕ → Bool) (v : Side) (ci : CorrectOf n faulty i) (here : Settled n t G q v) where
-    settled_own : kind q ≡ Third → Quorum n t (own i) q S → Decided n t own i q S v
+    settled_own : kind q ≡ Third → Quorum n t (own i) q S → DecidesBy n t own i q S v
     settled_own e full = record {
       third = e;
       quorum = full;
       decides = omega (arith, (kept i q ci).tallies S full (proposal v), here.decided e S ((kept i q ci).quorums S full));
     }
 
-    settled_only : (u : Side) → Decided n t own i q S u → u ≡ v
+    settled_only : (u : Side) → DecidesBy n t own i q S u → u ≡ v
     settled_only u d =
         here.alone d.third S u ((kept i q ci).quorums S d.quorum) (omega (arith, d.decides, (kept i q ci).tallies S d.quorum (proposal u)))
 
-  own_decisions : Decisions n t faulty own
+  own_decisions : OwnDecisions n t faulty own
   own_decisions = record {
     agreement = λ i j q r S T u v ci cj d e.
         agreement n t law.third G (own i) (own j) (join.part i ci) (join.part j cj) q r d.third e.third S T u v d.quorum e.quorum d.decides e.decides;
@@ -110,9 +110,9 @@ module _ (n t : ℕ) (faulty : ℕ → Bool) (own : ℕ → Accepted) (law : Res
       lucky_settled r c used e l =
           lucky n t G faulty law r c (λ o. tally n (own o) r (used o)) e (λ o b co x. let k = join.from o (suc r) b (held n t G (suc r) o b x) in l.said k.0 o b k.1 co k.2) l.forced
 
-pub decisions : (n t : ℕ) (faulty : ℕ → Bool) (own : ℕ → Accepted) → Resilient n t faulty → Alike n faulty own → Decisions n t faulty own
+pub decisions : (n t : ℕ) (faulty : ℕ → Bool) (own : ℕ → BallotMap) → Resilient n t faulty → AcceptedAlike n faulty own → OwnDecisions n t faulty own
 decisions n t faulty own law alike = own_decisions n t faulty own law (whole n faulty own alike) (joins n faulty own alike)
 
-pub going : (n t : ℕ) (faulty : ℕ → Bool) (own : ℕ → Accepted) → Resilient n t faulty → (i r : ℕ) → ((k : ℕ) → CorrectOf n faulty k → Part (own k) (own i)) → ((k : ℕ) → CorrectOf n faulty k → (b : ℕ) × Justified n t (own k) r b × (own i k r ≡ Some b)) → (S : ℕ → Bool) × Advances n t (own i) r S
+pub going : (n t : ℕ) (faulty : ℕ → Bool) (own : ℕ → BallotMap) → Resilient n t faulty → (i r : ℕ) → ((k : ℕ) → CorrectOf n faulty k → Part (own k) (own i)) → ((k : ℕ) → CorrectOf n faulty k → (b : ℕ) × Justified n t (own k) r b × (own i k r ≡ Some b)) → (S : ℕ → Bool) × CanAdvance n t (own i) r S
 going n t faulty own law i r part said =
     enough n t faulty law (own i) r (λ k ck. let h = said k ck in (h.0, (all_kept n t (own k) (own i) (part k ck) r).justified k h.0 h.1 h.2))

@@ -9,13 +9,13 @@ use Rattle.protocol.specs.Heard.{has}
 use Rattle.protocol.specs.declared.votes.Kind.{Kind}
 use Rattle.protocol.specs.declared.votes.Kind.TheVariants.{First, Second, Third}
 use Rattle.protocol.specs.Phases.{kind}
-use Rattle.consensus.specs.Rounds.{Accepted, tally, Forces, Most, ahead, Allows, ballot_for}
+use Rattle.consensus.specs.Rounds.{BallotMap, tally, Forces, Most, ahead, Allows, ballot_for}
 use Rattle.consensus.specs.Validity.{Valid, Quorum, Justified, Part}
-use Rattle.consensus.specs.Decisions.{Kept, OneSide}
+use Rattle.consensus.specs.Decisions.{Grown, OneSide}
 use Rattle.consensus.proofs.Sides.{other, vote_side, proposal_side, side_of, not_vote, not_open, not_other, ahead_is, after, kind_after}
 use Rattle.consensus.proofs.Tallies.{held, most_meet, valid_sayer, tally_all}
 
-module _ (n t : ℕ) (A G : Accepted) (part : Part A G) where
+module _ (n t : ℕ) (A G : BallotMap) (part : Part A G) where
   module _ (r : ℕ) (kept : (o b : ℕ) → Valid n t A r o b → Valid n t G r o b) where
     quorum_kept : (S : ℕ → Bool) → Quorum n t A r S → Quorum n t G r S
     quorum_kept S full = record { size = full.size; member = λ k l e. let m = full.member k l e in (m.0, kept k m.0 m.1) }
@@ -48,7 +48,7 @@ module _ (n t : ℕ) (A G : Accepted) (part : Part A G) where
   justified_kept (suc r) o b j e =
       (e, (j.0, quorum_kept r (valid_kept r) j.0 j.1, allows_kept r (valid_kept r) j.0 j.1 b j.2))
 
-  pub all_kept : (r : ℕ) → Kept n t A G r
+  pub all_kept : (r : ℕ) → Grown n t A G r
   all_kept r =
       record { ballots = valid_kept r; quorums = quorum_kept r (valid_kept r); tallies = tally_kept r (valid_kept r); justified = justified_kept r }
 
@@ -80,7 +80,7 @@ proposed n t Second count u (inr a) = absurd (not_open u a.1)
 proposed n t Third count u (inl a) = absurd (not_vote u a.0 a.2)
 proposed n t Third count u (inr a) = absurd (not_vote u a.1.0 a.1.1)
 
-module _ (n t : ℕ) (G : Accepted) where
+module _ (n t : ℕ) (G : BallotMap) where
   pub allowing : (r o b : ℕ) → Valid n t G (suc r) o b → (S : ℕ → Bool) × Quorum n t G r S × Allows n t (kind r) (tally n G r S) b
   unfolding Valid
   allowing r o b v = v.1

@@ -9,7 +9,7 @@ use Rattle.protocol.specs.Heard.{has}
 use Rattle.agreement.proofs.Bodies.{has_some, some_has, some_once}
 use Rattle.agreement.proofs.Counts.{below_measure}
 use Rattle.agreement.proofs.Weights.{find}
-use Rattle.consensus.specs.Rounds.{Accepted, tally}
+use Rattle.consensus.specs.Rounds.{BallotMap, tally}
 use Rattle.protocol.specs.Faults.{CorrectOf}
 use Rattle.consensus.specs.Validity.{Valid, Quorum}
 
@@ -23,7 +23,7 @@ meet n p q h =
     let both = and_parts (p k.0) (q k.0) k.2 in
     (k.0, k.1, both.0, both.1)
 
-module _ (n t : ℕ) (G : Accepted) where
+module _ (n t : ℕ) (G : BallotMap) where
   pub held : (r o b : ℕ) → Valid n t G r o b → G o r ≡ Some b
   unfolding Valid
   held zero o b v = v.0

@@ -7,7 +7,7 @@ use Rattle.protocol.specs.Numbers.{ballot_number, vote, proposal}
 use Rattle.protocol.specs.declared.votes.Kind.{Kind}
 use Rattle.protocol.specs.declared.votes.Kind.TheVariants.{First, Third}
 use Rattle.protocol.specs.Phases.{kind}
-use Rattle.consensus.specs.Rounds.{Accepted, tally, Forces, Decides, ballot_for}
+use Rattle.consensus.specs.Rounds.{BallotMap, tally, Forces, Decides, ballot_for}
 use Rattle.protocol.specs.Faults.{CorrectOf}
 use Rattle.consensus.specs.Validity.{Valid, Quorum, Part, Resilient}
 use Rattle.consensus.specs.Decisions.{Locked, Settled, Unanimous, Tossed}
@@ -21,7 +21,7 @@ third_carries n t q count v e f one = subst (λ (k : Kind). Carries n t k count 
 first_carries : (n t : ℕ) (q : Kind) (count : Ballot → ℕ) (v : Side) → q ≡ First → count (vote (other v)) < count (vote v) → Carries n t q count v
 first_carries n t q count v e l = subst (λ (k : Kind). Carries n t k count v) (sym e) l
 
-module _ (n t : ℕ) (G : Accepted) where
+module _ (n t : ℕ) (G : BallotMap) where
   -- every later round than one that has v only
   settled_from : 3 * t < n → (v : Side) (r : ℕ) → Agreed n t G r v → (q : ℕ) → r ≤ q → Settled n t G q v
   settled_from third v r all q l =
@@ -60,7 +60,7 @@ module _ (n t : ℕ) (G : Accepted) where
         carries S full =
             first_carries n t (kind r) (tally n G r S) v at_first (omega (arith, law.few, law.third, tally_correct n t G r S full faulty (vote v) all, tally_faulty n t G r S full faulty (vote v) all (vote (other v)) (λ e. not_other v (vote_side (other v) v e))))
 
-    pub valid_decision : (A : Accepted) → Part A G → (v : Side) → Unanimous n t faulty G 0 v → (r : ℕ) → kind r ≡ Third → (S : ℕ → Bool) (u : Side) → Quorum n t A r S → Decides t (tally n A r S) u → u ≡ v
+    pub valid_decision : (A : BallotMap) → Part A G → (v : Side) → Unanimous n t faulty G 0 v → (r : ℕ) → kind r ≡ Third → (S : ℕ → Bool) (u : Side) → Quorum n t A r S → Decides t (tally n A r S) u → u ≡ v
     valid_decision A part v all r e S u full d =
         let x = all_kept n t A G part r in
         (settled 0 v refl all r (third_late r e)).alone e S u (x.quorums S full) (omega (arith, x.tallies S full (proposal u)))
@@ -72,7 +72,7 @@ module _ (n t : ℕ) (G : Accepted) where
         unanimous o b co x =
             ⊎_elim (λ f. f.2 ∙ ap (λ v. ballot_number (vote v)) (same o f.0 co f.1)) (λ f. f.1) (tossed o b co x)
 
-module _ (n t : ℕ) (third : 3 * t < n) (G : Accepted) where
+module _ (n t : ℕ) (third : 3 * t < n) (G : BallotMap) where
   -- of two decisions the later one follows the earlier
   in_turn : (q r : ℕ) → kind q ≡ Third → kind r ≡ Third → q ≤ r → (S T : ℕ → Bool) (u v : Side) → Quorum n t G q S → Quorum n t G r T → Decides t (tally n G q S) u → Decides t (tally n G r T) v → v ≡ u
   in_turn q r e f l S T u v s s₁ d d₁ =
@@ -82,7 +82,7 @@ module _ (n t : ℕ) (third : 3 * t < n) (G : Accepted) where
   whole q r e f S T u v s s₁ d d₁ =
       ⊎_elim (λ (x : q < r). sym (in_turn q r e f (omega arith) S T u v s s₁ d d₁)) (λ (x : r ≤ q). in_turn r q f e x T S v u s₁ s d₁ d) (cases_lt q r)
 
-  pub agreement : (A B : Accepted) → Part A G → Part B G → (q r : ℕ) → kind q ≡ Third → kind r ≡ Third → (S T : ℕ → Bool) (u v : Side) → Quorum n t A q S → Quorum n t B r T → Decides t (tally n A q S) u → Decides t (tally n B r T) v → u ≡ v
+  pub agreement : (A B : BallotMap) → Part A G → Part B G → (q r : ℕ) → kind q ≡ Third → kind r ≡ Third → (S T : ℕ → Bool) (u v : Side) → Quorum n t A q S → Quorum n t B r T → Decides t (tally n A q S) u → Decides t (tally n B r T) v → u ≡ v
   agreement A B a b q r e f S T u v s s₁ d d₁ =
       let x = all_kept n t A G a q in
       let y = all_kept n t B G b r in

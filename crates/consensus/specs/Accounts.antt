@@ -4,15 +4,15 @@ use Rattle.protocol.specs.declared.votes.Side.{Side}
 use Rattle.protocol.specs.Numbers.{ballot_number, vote}
 use Rattle.protocol.specs.declared.votes.Kind.TheVariants.{Third}
 use Rattle.protocol.specs.Phases.{kind}
-use Rattle.consensus.specs.Rounds.{Accepted, tally, Forces, Decides}
+use Rattle.consensus.specs.Rounds.{BallotMap, tally, Forces, Decides}
 use Rattle.protocol.specs.Faults.{CorrectOf}
 use Rattle.consensus.specs.Validity.{Quorum, Justified, Part}
 use Rattle.consensus.specs.Decisions.{Tossed}
-use Rattle.consensus.specs.Maps.{Alike}
+use Rattle.consensus.specs.Maps.{AcceptedAlike}
 
 -- How a process that has accepted A left round q: by a set, which forced and decided the sides that are told. Its next
 -- ballot after a third round was the forced side or the coin's.
-pub record Left (n t : ℕ) (A : Accepted) (coin : Side) (q : ℕ) (next : Option ℕ) (forced decided : Side → Type 0) : Type 0 where
+pub record Left (n t : ℕ) (A : BallotMap) (coin : Side) (q : ℕ) (next : Option ℕ) (forced decided : Side → Type 0) : Type 0 where
   pub by : ℕ → Bool
   pub quorum : Quorum n t A q by
   pub tossed : kind q ≡ Third → (b : ℕ) → next ≡ Some b → Tossed t (tally n A q by) coin b
@@ -24,14 +24,14 @@ pub record Left (n t : ℕ) (A : Accepted) (coin : Side) (q : ℕ) (next : Optio
 
 -- Process o has accepted own o, said said o r in round r, and is in the last of rounds o rounds; coin o r is what it
 -- would toss in round r, and forced o r and decided o r are told of it.
-pub record Account (n t last : ℕ) (faulty : ℕ → Bool) (coin : ℕ → ℕ → Side) (own : ℕ → Accepted) (said : ℕ → ℕ → Option ℕ) (rounds : ℕ → ℕ) (forced decided : ℕ → ℕ → Side → Type 0) : Type 0 where
-  pub alike : Alike n faulty own
+pub record Account (n t last : ℕ) (faulty : ℕ → Bool) (coin : ℕ → ℕ → Side) (own : ℕ → BallotMap) (said : ℕ → ℕ → Option ℕ) (rounds : ℕ → ℕ) (forced decided : ℕ → ℕ → Side → Type 0) : Type 0 where
+  pub alike : AcceptedAlike n faulty own
   pub honest : (i o r b : ℕ) → CorrectOf n faulty i → CorrectOf n faulty o → own i o r ≡ Some b → said o r ≡ Some b
   pub spoke : (o r : ℕ) → CorrectOf n faulty o → r < rounds o → r < last → (b : ℕ) × (said o r ≡ Some b) × Justified n t (own o) r b
   pub unsaid : (o r : ℕ) → CorrectOf n faulty o → rounds o ≤ r → said o r ≡ None
   pub left : (o r : ℕ) → CorrectOf n faulty o → suc r < rounds o → Left n t (own o) (coin o r) r (said o (suc r)) (forced o r) (decided o r)
 
-pub record Outcomes (n t last : ℕ) (faulty : ℕ → Bool) (coin : ℕ → ℕ → Side) (own : ℕ → Accepted) (said : ℕ → ℕ → Option ℕ) (rounds : ℕ → ℕ) (forced decided : ℕ → ℕ → Side → Type 0) : Type 0 where
+pub record Outcomes (n t last : ℕ) (faulty : ℕ → Bool) (coin : ℕ → ℕ → Side) (own : ℕ → BallotMap) (said : ℕ → ℕ → Option ℕ) (rounds : ℕ → ℕ) (forced decided : ℕ → ℕ → Side → Type 0) : Type 0 where
   -- CorrectOf processes decide one side.
   pub agreement : (i j q r : ℕ) (u v : Side) → CorrectOf n faulty i → CorrectOf n faulty j → suc q < rounds i → suc r < rounds j → decided i q u → decided j r v → u ≡ v
   -- If all of them voted for v, it is v.

@@ -11,11 +11,11 @@ use Rattle.protocol.specs.Numbers.{ballot_number, vote, proposal}
 use Rattle.protocol.specs.Heard.{has}
 
 -- the ballots accepted in a case, as numbers: by originator, then by round
-abbrev pub Accepted : Type 0
-Accepted = ℕ → ℕ → Option ℕ
+abbrev pub BallotMap : Type 0
+BallotMap = ℕ → ℕ → Option ℕ
 
 -- how many members of S below n have ballot b in round r
-unfoldable pub tally : ℕ → Accepted → ℕ → (ℕ → Bool) → Ballot → ℕ
+unfoldable pub tally : ℕ → BallotMap → ℕ → (ℕ → Bool) → Ballot → ℕ
 tally n G r S b = below n (λ k. S k && has (G k r) (ballot_number b))
 
 -- What a set says depends on how many of each ballot it has.

@@ -2,9 +2,9 @@
 //! carries a theorem.
 #![tactic(auto)]
 
-ghost use Rattle.consensus.specs.Decisions.{Monotone, Proposals, Locking, Settling, Validity, Agreement, Luck, Lowest, Enough, Happens};
+ghost use Rattle.consensus.specs.Decisions.{Monotone, Proposals, Locking, Settling, UnanimityDecides, DecisionsAgree, LuckSettles, Lowest, Enough, DecisionHappens};
 ghost use Rattle.consensus.specs.Maps.{Joining, Deciding, Going};
-ghost use Rattle.consensus.specs.Rounds.{Accepted};
+ghost use Rattle.consensus.specs.Rounds.{BallotMap};
 ghost use Rattle.protocol.specs.declared.votes.Side.{Side};
 ghost use Rattle.std.specs.Prelude.{ℕ, Bool};
 
@@ -26,12 +26,12 @@ pub fn decision_locks()
 // What correct processes vote unanimously is decided, in this phase and in all later ones.
 pub fn unanimity_settles()
     ensures settling { Settling }
-    ensures validity { Validity }
+    ensures validity { UnanimityDecides }
 {}
 
 // No two decisions differ.
 pub fn decisions_agree()
-    ensures { Agreement }
+    ensures { DecisionsAgree }
 {}
 
 // The maps of correct processes that accept alike are parts of one, and so what they decide by them agrees.
@@ -42,7 +42,7 @@ pub fn maps_join()
 
 // A coin that shows what is forced ends the case in the phase after.
 pub fn luck_settles()
-    ensures { Luck }
+    ensures { LuckSettles }
 {}
 
 // A process with enough valid ballots can go on, and those of the correct processes are enough.
@@ -54,5 +54,5 @@ pub fn rounds_go_on()
 
 // Either side may be decided.
 pub fn decision_happens()
-    ensures { (v : Side) → (G : Accepted) × (S : ℕ → Bool) × Happens v G S }
+    ensures { (v : Side) → (G : BallotMap) × (S : ℕ → Bool) × DecisionHappens v G S }
 {}

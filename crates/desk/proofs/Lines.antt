@@ -14,7 +14,7 @@ use Rattle.form.specs.declared.forms.Form.TheVariants as form
 use Rattle.form.specs.declared.forms.LineForm.{LineForm}
 use Rattle.memory.specs.Contents.{Held, cleared}
 use Rattle.line.specs.Opening.{open_refusal, LineOpened, LineNotOpened, OpensLine}
-use Rattle.desk.specs.Desk.{marking, lawful, line_if, line_of, opening, opens_with, opens_marked, opens_planned, opens, opens_by}
+use Rattle.desk.specs.Desk.{marking, lawful, line_if, line_of, line_made, opens_with, opens_marked, opens_planned, opens, opens_by}
 
 -- lines with equal plans and marks are equal
 same_line : (l k : Line) → l.plan ≡ k.plan → l.marks ≡ k.marks → l ≡ k
@@ -40,7 +40,7 @@ line_of_lem line plan marks e f = (λ i. line_of (sym e i) (sym f i)) ∙ line_i
 
 -- opening the line of a form, from its plan on
 module _ (h : Held) (ws : List Message) (l : LineForm) (f : Form) (is : f ≡ form.Line l) where
-  pub no_plan : (e : Refusal) → Err e ≡ planned l.counters l.tolerate 2 1 3 → opening (Err e) h ≡ opens_by h ws f
+  pub no_plan : (e : Refusal) → Err e ≡ planned l.counters l.tolerate 2 1 3 → line_made (Err e) h ≡ opens_by h ws f
   unfolding opens
   no_plan e p = ap (λ (r : Result Plan Refusal). opens_planned h ws r l.strange) p ∙ ap (opens_by h ws) (sym is)
 
@@ -49,25 +49,25 @@ module _ (h : Held) (ws : List Message) (l : LineForm) (f : Form) (is : f ≡ fo
     unfolding opens
     by_marks r q = ap (opens_marked h ws plan) q ∙ (ap (λ (x : Result Plan Refusal). opens_planned h ws x l.strange) p ∙ ap (opens_by h ws) (sym is))
 
-    pub no_marks : (e : Refusal) → Err e ≡ marking plan 0 l.strange → opening (Err e) h ≡ opens_by h ws f
+    pub no_marks : (e : Refusal) → Err e ≡ marking plan 0 l.strange → line_made (Err e) h ≡ opens_by h ws f
     no_marks e q = by_marks (Err e) q
 
     module _ (draft : Draft) (same : draft.plan ≡ plan) (q : Ok draft.marks ≡ marking plan 0 l.strange) where
-      opened : (line : Line) (after : Held) → LineOpened draft h ws line after → opening (Ok line) after ≡ opens_by h ws f
+      opened : (line : Line) (after : Held) → LineOpened draft h ws line after → line_made (Ok line) after ≡ opens_by h ws f
       opened line after o =
           let allowed : open_refusal plan h ws ≡ None = ap (λ (x : Plan). open_refusal x h ws) (sym same) ∙ o.allowed in
           let memory : after ≡ cleared plan h = o.memory ∙ ap (λ (x : Plan). cleared x h) same in
-          ap (opening (Ok line)) memory
+          ap (line_made (Ok line)) memory
           ∙ ((λ i. opens_with h ws plan (sym allowed i) (sym (line_of_lem line plan draft.marks (o.became.plan ∙ same) o.became.marks) i)) ∙ by_marks (Ok draft.marks) q)
 
-      not_opened : (e : Refusal) (back : Draft) (after : Held) → LineNotOpened draft h ws e back after → opening (Err e) after ≡ opens_by h ws f
+      not_opened : (e : Refusal) (back : Draft) (after : Held) → LineNotOpened draft h ws e back after → line_made (Err e) after ≡ opens_by h ws f
       not_opened e back after o =
           let why : open_refusal plan h ws ≡ Some e = ap (λ (x : Plan). open_refusal x h ws) (sym same) ∙ o.first in
-          ap (opening (Err e)) o.memory
+          ap (line_made (Err e)) o.memory
           ∙ (ap (λ (r : Option Refusal). opens_with h ws plan r (line_of plan draft.marks)) (sym why) ∙ by_marks (Ok draft.marks) q)
 
       -- the line, or the refusal without the draft
-      pub opened_or_not : (r : Result Line (Refusal × Draft)) (q : Result Line Refusal) (after : Held) → OpensLine draft h ws r after → MatchResult r (λ l. q ≡ Ok l) (λ e. IsErrAnd q (λ x. x ≡ e.0)) → opening q after ≡ opens_by h ws f
-      opened_or_not (Ok line) q after o e = ap (λ (x : Result Line Refusal). opening x after) e ∙ opened line after o
+      pub opened_or_not : (r : Result Line (Refusal × Draft)) (q : Result Line Refusal) (after : Held) → OpensLine draft h ws r after → MatchResult r (λ l. q ≡ Ok l) (λ e. IsErrAnd q (λ x. x ≡ e.0)) → line_made q after ≡ opens_by h ws f
+      opened_or_not (Ok line) q after o e = ap (λ (x : Result Line Refusal). line_made x after) e ∙ opened line after o
       opened_or_not (Err refused) (Ok line) after o e = absurd e
-      opened_or_not (Err refused) (Err x) after o e = ap (λ (y : Refusal). opening (Err y) after) e ∙ not_opened refused.0 refused.1 after o
+      opened_or_not (Err refused) (Err x) after o e = ap (λ (y : Refusal). line_made (Err y) after) e ∙ not_opened refused.0 refused.1 after o

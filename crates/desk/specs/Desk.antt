@@ -67,40 +67,40 @@ module _ (plan : Plan) (marks : ℕ) where
   line_of = line_if lawful refl
 
 -- what opening a line answers, and what is then in memory
-pub record Opening : Type 0 where
+pub record LineMade : Type 0 where
   pub answer : Result Line Refusal
   pub memory : Held
 
-abbrev pub opening : Result Line Refusal → Held → Opening
-opening r h = record { answer = r; memory = h }
+abbrev pub line_made : Result Line Refusal → Held → LineMade
+line_made r h = record { answer = r; memory = h }
 
 module _ (h : Held) (ws : List Message) where
   -- the last case but one does not come: what was drafted makes a line
-  abbrev pub opens_with : Plan → Option Refusal → Result Line Refusal → Opening
-  opens_with plan (Some e) line = opening (Err e) h
-  opens_with plan None (Err e) = opening (Err e) h
-  opens_with plan None (Ok line) = opening (Ok line) (cleared plan h)
+  abbrev pub opens_with : Plan → Option Refusal → Result Line Refusal → LineMade
+  opens_with plan (Some e) line = line_made (Err e) h
+  opens_with plan None (Err e) = line_made (Err e) h
+  opens_with plan None (Ok line) = line_made (Ok line) (cleared plan h)
 
-  abbrev pub opens_marked : Plan → Result ℕ Refusal → Opening
-  opens_marked plan (Err e) = opening (Err e) h
+  abbrev pub opens_marked : Plan → Result ℕ Refusal → LineMade
+  opens_marked plan (Err e) = line_made (Err e) h
   opens_marked plan (Ok marks) = opens_with plan (open_refusal plan h ws) (line_of plan marks)
 
-  abbrev pub opens_planned : Result Plan Refusal → List ℕ → Opening
-  opens_planned (Err e) ms = opening (Err e) h
+  abbrev pub opens_planned : Result Plan Refusal → List ℕ → LineMade
+  opens_planned (Err e) ms = line_made (Err e) h
   opens_planned (Ok plan) ms = opens_marked plan (marking plan 0 ms)
 
   -- a line of n processes of which t may be faulty and these are, with 2 serials, 1 case and 3 phases
-  unfoldable pub opens : ℕ → ℕ → List ℕ → Opening
+  unfoldable pub opens : ℕ → ℕ → List ℕ → LineMade
   opens n t ms = opens_planned (planned n t 2 1 3) ms
 
   -- a form that is not for a line is out of place
-  abbrev pub opens_by : Form → Opening
+  abbrev pub opens_by : Form → LineMade
   opens_by (form.Line l) = opens l.counters l.tolerate l.strange
-  opens_by (form.Announce c t) = opening (Err LineOutOfPlace) h
-  opens_by (form.Open c k v) = opening (Err LineOutOfPlace) h
-  opens_by (form.Forge g) = opening (Err LineOutOfPlace) h
-  opens_by (form.Deliver c p) = opening (Err LineOutOfPlace) h
-  opens_by (form.Advance c k) = opening (Err LineOutOfPlace) h
+  opens_by (form.Announce c t) = line_made (Err LineOutOfPlace) h
+  opens_by (form.Open c k v) = line_made (Err LineOutOfPlace) h
+  opens_by (form.Forge g) = line_made (Err LineOutOfPlace) h
+  opens_by (form.Deliver c p) = line_made (Err LineOutOfPlace) h
+  opens_by (form.Advance c k) = line_made (Err LineOutOfPlace) h
 
 -- The turn that a form asks for where a line is open: its tag or its message is made first.
 abbrev pub announcing : ℕ → Result Tag Refusal → Result Turn Refusal
@@ -141,12 +141,12 @@ abbrev pub places : Desk → ℕ
 places d = places_of d.basket
 
 -- what a form is answered, and what is then at the desk
-pub record Done : Type 0 where
+pub record DeskAfter : Type 0 where
   pub said : Result Said Refusal
   pub desk : AtDesk
 
-abbrev pub done : Result Said Refusal → AtDesk → Done
-done s d = record { said = s; desk = d }
+abbrev pub desk_after : Result Said Refusal → AtDesk → DeskAfter
+desk_after s d = record { said = s; desk = d }
 
 abbrev pub answered : Result Answer Refusal → Result Said Refusal
 answered (Ok a) = Ok (Did a)
@@ -157,21 +157,21 @@ abbrev pub turns : ℕ → Line → Held → List Message → Result Turn Refusa
 turns capacity line h ws (Err e) = acted (Err e) h ws
 turns capacity line h ws (Ok turn) = act line keeping h ws capacity turn
 
-abbrev pub turned : Line → Acted → Done
-turned line a = done (answered a.answer) (desk (Some line) a.memory a.waiting)
+abbrev pub turned : Line → Acted → DeskAfter
+turned line a = desk_after (answered a.answer) (desk (Some line) a.memory a.waiting)
 
-abbrev pub opened_by : Result Line Refusal → Held → List Message → Done
-opened_by (Ok line) h ws = done (Ok Opened) (desk (Some line) h ws)
-opened_by (Err e) h ws = done (Err e) (desk None h ws)
+abbrev pub opened_by : Result Line Refusal → Held → List Message → DeskAfter
+opened_by (Ok line) h ws = desk_after (Ok Opened) (desk (Some line) h ws)
+opened_by (Err e) h ws = desk_after (Err e) (desk None h ws)
 
-abbrev pub begins : List Message → Opening → Done
+abbrev pub begins : List Message → LineMade → DeskAfter
 begins ws o = opened_by o.answer o.memory ws
 
 -- Before a line is open a form may open one, and from then on it may be a turn.
-abbrev pub acts_at : ℕ → Option Line → Held → List Message → Form → Done
+abbrev pub acts_at : ℕ → Option Line → Held → List Message → Form → DeskAfter
 acts_at capacity None h ws f = begins ws (opens_by h ws f)
 acts_at capacity (Some line) h ws f = turned line (turns capacity line h ws (asks f))
 
 -- what a form does at a desk with a basket of so many places
-abbrev pub acts : ℕ → AtDesk → Form → Done
+abbrev pub acts : ℕ → AtDesk → Form → DeskAfter
 acts capacity d f = acts_at capacity d.line d.memory d.waiting f

@@ -1,7 +1,7 @@
 // Opening a line by its form.
 ghost use Rattle.std.specs.Prelude.{◌≡◌, IfOk};
 ghost use Rattle.memory.specs.Contents.{held};
-ghost use Rattle.desk.specs.Desk.{waiting_in, marking, drafted, opening as opened, opens_by};
+ghost use Rattle.desk.specs.Desk.{waiting_in, marking, drafted, line_made as opened, opens_by};
 
 use carriers::Basket;
 use form::{Form, Marks};

@@ -10,7 +10,7 @@ use Rattle.memory.specs.Contents.{Held, cleared}
 use Rattle.memory.specs.Places.{enough}
 use Rattle.rules.specs.Turns.{Coin, unless}
 use Rattle.rules.specs.Runs.{Run}
-use Rattle.rules.specs.Promises.{Kept}
+use Rattle.rules.specs.Promises.{PromisesKept}
 
 -- why opening is refused, if it is: the memory is too small, or a message waits
 abbrev pub open_refusal : Plan → Held → List Message → Option Refusal
@@ -36,7 +36,7 @@ OpensLine draft h ws (Err refused) after = LineNotOpened draft h ws refused.0 re
 -- A run begins with this memory and an empty carrier, and after every run on the line, with whatever coin, the promises hold.
 pub record Begins (capacity : ℕ) (line : Line) (h : Held) : Type 0 where
   pub run : (coin : Coin) → Run line capacity coin [] h []
-  pub kept : (coin : Coin) → Kept line capacity coin
+  pub kept : (coin : Coin) → PromisesKept line capacity coin
 
 abbrev pub Promised : ℕ → Result Line (Refusal × Draft) → Held → Type 0
 Promised capacity (Ok line) h = Begins capacity line h

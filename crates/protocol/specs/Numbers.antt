@@ -21,14 +21,14 @@ ballot_of n =
     (cond (n == 1) (Some Release) (cond (n == 2) (Some ProposeKeep) (cond (n == 3) (Some ProposeRelease) (cond (n == 4) (Some Open) None))))
 
 -- o holds a ballot exactly if n is that ballot's number
-pub record Exact (n : ℕ) (o : Option Ballot) : Type 0 where
+pub record ExactlyNumbered (n : ℕ) (o : Option Ballot) : Type 0 where
   pub sound : (b : Ballot) → o ≡ Some b → n ≡ ballot_number b
   pub full : (b : Ballot) → n ≡ ballot_number b → o ≡ Some b
 
 -- what a number is turned into: the ballot that has it, if one has
-pub record Turns (n : ℕ) (r : Result Ballot Refusal) : Type 0 where
+pub record FromNumber (n : ℕ) (r : Result Ballot Refusal) : Type 0 where
   pub value : r ≡ ok_or (ballot_of n) ValueOutOfRange
-  pub exact : Exact n (ballot_of n)
+  pub exact : ExactlyNumbered n (ballot_of n)
 
 abbrev pub vote : Side → Ballot
 vote side.Keep = Keep

@@ -1,7 +1,7 @@
 // The sides of a case, the ballots that are cast on it, and the rounds that they are cast in.
 ghost use Rattle.std.specs.Prelude.{◌≡◌};
 ghost use Rattle.protocol.specs.Phases.{kind};
-ghost use Rattle.protocol.specs.Numbers.{ballot_number, Turns, vote, proposal};
+ghost use Rattle.protocol.specs.Numbers.{ballot_number, FromNumber, vote, proposal};
 
 use crate::refusals::Refusal;
 
@@ -76,7 +76,7 @@ impl Kind {
 impl TryFrom<u64> for Ballot {
     type Error = Refusal;
 
-    ghost try_from_gives = { Turns };
+    ghost try_from_gives = { FromNumber };
 
     fn try_from(number: u64) -> Result<Ballot, Refusal> {
         match number {

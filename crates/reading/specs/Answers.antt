@@ -14,13 +14,13 @@ use Rattle.reading.specs.declared.readings.Reading.{Reading}
 use Rattle.reading.specs.declared.readings.Reading.TheVariants.{Nothing, Unreadable, Value}
 
 -- why reading is refused, if it is
-abbrev pub refusal : Line → Held → ℕ → Subject → Option Refusal
-refusal line h i s = correct_tests line h i (unless (within line.plan s) SubjectOutOfPlan None)
+abbrev pub read_refusal : Line → Held → ℕ → Subject → Option Refusal
+read_refusal line h i s = correct_tests line h i (unless (within line.plan s) SubjectOutOfPlan None)
 
 -- a place was found, or reading is refused
 abbrev pub Located : Line → Held → ℕ → Subject → Result ℕ Refusal → Type 0
-Located line h i s (Ok at) = (refusal line h i s ≡ None) × (at ≡ place line.plan i s)
-Located line h i s (Err e) = refusal line h i s ≡ Some e
+Located line h i s (Ok at) = (read_refusal line h i s ≡ None) × (at ≡ place line.plan i s)
+Located line h i s (Err e) = read_refusal line h i s ≡ Some e
 
 -- what a body is read as, if it was accepted
 abbrev pub value_in : {V : Type 0} → Option V → Reading V
@@ -37,9 +37,9 @@ unless_refused None x = Ok x
 unless_refused (Some e) x = Err e
 
 abbrev pub answer : {V : Type 0} → (ℕ → Option V) → Line → Held → ℕ → Subject → Result (Reading V) Refusal
-answer unpacked line h i s = unless_refused (refusal line h i s) (reading_of unpacked (body_at line.plan h i s))
+answer unpacked line h i s = unless_refused (read_refusal line h i s) (reading_of unpacked (body_at line.plan h i s))
 
 -- Where a run leads to this memory, and tells that the correct process i accepted body b for the subject, this body is read.
-abbrev pub Alike : {V : Type 0} → (ℕ → Option V) → Line → Held → ℕ → Subject → Result (Reading V) Refusal → Type 0
-Alike unpacked line h i s r =
+abbrev pub ReadsAccepted : {V : Type 0} → (ℕ → Option V) → Line → Held → ℕ → Subject → Result (Reading V) Refusal → Type 0
+ReadsAccepted unpacked line h i s r =
     (capacity : ℕ) (coin : Coin) (es : List Event) (ws : List Message) (b : ℕ) → Run line capacity coin es h ws → Correct line i → Accepted es i s b → r ≡ Ok (reading_of unpacked (Some b))

@@ -3,7 +3,7 @@
 
 ghost use Rattle.std.specs.Prelude.{◌≡◌};
 ghost use Rattle.memory.specs.Contents.{held};
-ghost use Rattle.reading.specs.Answers.{Located, answer, Alike};
+ghost use Rattle.reading.specs.Answers.{Located, answer, ReadsAccepted};
 
 use item::Item;
 use line::check_correct;
@@ -23,7 +23,7 @@ pub fn read<I: Item>(
     subject: Subject,
 ) -> Result<Reading<I>, Refusal>
     ensures value { result ≡ answer I.unpacked line.now (held memory.now) process subject }
-    ensures alike { Alike I.unpacked line.now (held memory.now) process subject result }
+    ensures alike { ReadsAccepted I.unpacked line.now (held memory.now) process subject result }
 {
     let at = locate(line, memory, process, subject)?;
     let Some(body) = memory.stage(at).accepted() else {

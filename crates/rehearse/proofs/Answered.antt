@@ -4,10 +4,10 @@ use Rattle.protocol.specs.declared.refusals.Refusal.{Refusal}
 use Rattle.form.specs.declared.forms.Form.{Form}
 use Rattle.script.specs.declared.fault.ScriptFault.{ScriptFault}
 use Rattle.script.specs.Lint.{checked, told, Responds}
-use Rattle.desk.specs.Desk.{AtDesk, Done, done, acts}
+use Rattle.desk.specs.Desk.{AtDesk, DeskAfter, desk_after, acts}
 use Rattle.desk.specs.Wording.{said_text}
 use Rattle.desk.specs.declared.said.Said.{Said}
-use Rattle.rehearse.specs.Rehearsed.{reply, unless_refused, reply_to, replies, answers}
+use Rattle.rehearse.specs.Rehearsed.{reply, refused_as_fault, reply_to, replies, answers}
 
 module _ (places n : ℕ) (d : AtDesk) (line : List ℕ) where
   reply_is : (r : Result Form ScriptFault) → r ≡ checked n line → reply_to places d r ≡ replies places n d line
@@ -22,5 +22,5 @@ module _ (places n : ℕ) (d : AtDesk) (line : List ℕ) where
   unread e f = responds (Err e) d places (reply_is (Err e) f) refl
 
   -- a form that was acted on
-  pub acted_on : (after : AtDesk) (room : ℕ) (form : Form) (r : Result Said Refusal) → Ok form ≡ checked n line → done r after ≡ acts places d form → room ≡ places → Responds said_text (answers places d) (answers room after) n line (unless_refused r)
-  acted_on after room form r e step same = responds (unless_refused r) after room (ap (λ (a : Done). reply (unless_refused a.said) a.desk) step ∙ reply_is (Ok form) e) same
+  pub acted_on : (after : AtDesk) (room : ℕ) (form : Form) (r : Result Said Refusal) → Ok form ≡ checked n line → desk_after r after ≡ acts places d form → room ≡ places → Responds said_text (answers places d) (answers room after) n line (refused_as_fault r)
+  acted_on after room form r e step same = responds (refused_as_fault r) after room (ap (λ (a : DeskAfter). reply (refused_as_fault a.said) a.desk) step ∙ reply_is (Ok form) e) same

@@ -18,13 +18,13 @@ pub record Reply : Type 0 where
 abbrev pub reply : Result Said ScriptFault → AtDesk → Reply
 reply r d = record { said = r; desk = d }
 
-abbrev pub unless_refused : Result Said Refusal → Result Said ScriptFault
-unless_refused (Ok s) = Ok s
-unless_refused (Err e) = Err (Refused e)
+abbrev pub refused_as_fault : Result Said Refusal → Result Said ScriptFault
+refused_as_fault (Ok s) = Ok s
+refused_as_fault (Err e) = Err (Refused e)
 
 -- its form is acted on; a line that does not read gets its fault, and nothing changes
 abbrev pub reply_to : ℕ → AtDesk → Result Form ScriptFault → Reply
-reply_to places d (Ok f) = reply (unless_refused (acts places d f).said) (acts places d f).desk
+reply_to places d (Ok f) = reply (refused_as_fault (acts places d f).said) (acts places d f).desk
 reply_to places d (Err e) = reply (Err e) d
 
 unfoldable pub replies : ℕ → ℕ → AtDesk → List ℕ → Reply

@@ -23,7 +23,7 @@ use Rattle.agreement.specs.Runs.{State, told}
 use Rattle.agreement.proofs.Bodies.{when_set, when_from}
 use Rattle.agreement.proofs.Waiting.{subject_same}
 use Rattle.ballots.proofs.Reading.{Covered, covered, ballot_within}
-use Rattle.cases.specs.Steps.{round_at, chosen, Law}
+use Rattle.cases.specs.Steps.{round_at, chosen, FollowsBallots}
 use Rattle.cases.proofs.Going.{law}
 use Rattle.rules.specs.Turns.{said, sent_for, decision_after, moved, advancing, Coin}
 use Rattle.rules.specs.Runs.{Event, opened, advanced, Aside, Advances, Happens}
@@ -102,7 +102,7 @@ module _ (line : Line) (capacity : ℕ) (coin : Coin) (es : List Event) (h : Hel
     abbrev in_case : CaseShown line coin es h st i c
     in_case = shows.cases.each i c may_advance_lem.process may_advance_lem.case
 
-    abbrev step_law : Law line.plan h i c (Some a.step)
+    abbrev step_law : FollowsBallots line.plan h i c (Some a.step)
     step_law = law line.plan h i c (Some a.step) (sym a.by)
 
     round_within : Covered line.plan h i c (round_at line.plan h i c)

@@ -12,7 +12,7 @@ use Rattle.memory.specs.Contents.{Held, case_at}
 use Rattle.memory.specs.Places.{case_place}
 use Rattle.protocol.specs.declared.votes.Kind.TheVariants.{Third}
 use Rattle.protocol.specs.Phases.{kind}
-use Rattle.consensus.specs.Rounds.{Accepted, tally, Allows}
+use Rattle.consensus.specs.Rounds.{BallotMap, tally, Allows}
 use Rattle.consensus.specs.Validity.{Justified, Part}
 use Rattle.consensus.specs.Decisions.{Tossed}
 use Rattle.consensus.specs.Accounts.{Left}
@@ -78,7 +78,7 @@ module _ (line : Line) (coin : Coin) (es : List Event) (h : Held) (st : State) (
   abbrev t : ℕ
   t = line.plan.t
 
-  abbrev G : Accepted
+  abbrev G : BallotMap
   G = ballots_at line.plan h i c
 
   -- nothing happens in the case, and no less is accepted

@@ -189,7 +189,7 @@ begins =
     _ (record { allowed = refl; memory = refl; carrier = λ p. refl; counted = refl })
 
 decided : Run line 3 coin first_phase (untouched (5 ∷ 1 ∷ 1 ∷ 3 ∷ []) 2 1 4 decision) (cast 4 1)
-unfolding to_all marked message handled below count step_by tally lowest ballots_at ballots.votes ballots.after
+unfolding to_all marked message handled below count step_by tally lowest ballots_at ballots.valid_by_counting ballots.after
 decided =
     goes 3 3 (5 ∷ 1 ∷ 1 ∷ []) 3 None decides (cast 4 1) (untouched (5 ∷ 1 ∷ 1 ∷ 3 ∷ []) 2 1 4 decision) _ (refl, refl, refl) refl refl
     (goes 2 1 (5 ∷ 1 ∷ []) 4 None proposes (cast 3 3) (untouched (5 ∷ 1 ∷ 1 ∷ []) 3 1 3 None) _ (refl, refl, refl) refl refl
@@ -199,7 +199,7 @@ abbrev end : Held
 end = accepted (5 ∷ 1 ∷ 1 ∷ 3 ∷ 1 ∷ 1 ∷ []) 0 1 7 decision 3
 
 run : Run line 3 coin events end []
-unfolding to_all marked message handled below count step_by tally lowest ballots_at ballots.votes ballots.after
+unfolding to_all marked message handled below count step_by tally lowest ballots_at ballots.valid_by_counting ballots.after
 run =
     goes 6 3 (5 ∷ 1 ∷ 1 ∷ 3 ∷ 1 ∷ 1 ∷ []) 0 decision decides [] end _ (refl, refl, refl) refl refl
     (goes 5 1 (5 ∷ 1 ∷ 1 ∷ 3 ∷ 1 ∷ []) 1 decision proposes (cast 6 3) (untouched (5 ∷ 1 ∷ 1 ∷ 3 ∷ 1 ∷ 1 ∷ []) 0 1 6 decision) _ (refl, refl, refl) refl refl

@@ -15,7 +15,7 @@ use Rattle.memory.specs.declared.records.Stage.TheVariants.{Silent, Echoed, Read
 use Rattle.memory.proofs.Grid.{laid}
 use Rattle.broadcast.specs.Hearing.{saying, listened, agreeing}
 use Rattle.broadcast.specs.Receiving.{heard}
-use Rattle.broadcast.specs.Stages.{turn, by_step, on_echo, on_ready}
+use Rattle.broadcast.specs.Stages.{turn, by_step, made_ready, on_ready}
 use Rattle.agreement.specs.Worlds.{World, counted}
 use Rattle.agreement.specs.Records as machine
 use Rattle.agreement.specs.Records.{Rec, when, support}
@@ -64,7 +64,7 @@ module _ (line : Line) (q : ℕ) (xs : List (Option ℕ)) (fits : readies line.p
         let limit = (thresholds_of n line.plan.t).echo in
         let ys = listened (placed line.plan q) m Echo xs in
         let c = saying n (echoes line.plan q) m.body ys in
-        subst (λ (y : ℕ). Follows n m (on_echo (leb limit c) x) x e r None (when (leb limit y) e m.body) (when (leb limit y) r m.body) None)
+        subst (λ (y : ℕ). Follows n m (made_ready (leb limit c) x) x e r None (when (leb limit y) e m.body) (when (leb limit y) r m.body) None)
         (sym (counts (echoes line.plan q) m.body ys _ (rows_next Echo e r None).echo))
         (echo_follows n m (leb limit c) x e r s)
     by_steps Ready x e r s =

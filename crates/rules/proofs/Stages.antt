@@ -6,7 +6,7 @@ use Rattle.protocol.specs.declared.messages.Step.TheVariants.{Echo, Ready}
 use Rattle.memory.specs.Contents.{accepted_body}
 use Rattle.memory.specs.declared.records.Stage.{Stage}
 use Rattle.memory.specs.declared.records.Stage.TheVariants.{Silent, Echoed, Readied, Accepted}
-use Rattle.broadcast.specs.Stages.{Turned, on_initial, on_echo, on_ready}
+use Rattle.broadcast.specs.Stages.{Turned, on_initial, made_ready, on_ready}
 use Rattle.agreement.specs.Records.{when}
 use Rattle.agreement.specs.Runs.{spread}
 use Rattle.rules.specs.Turns.{replies}
@@ -50,7 +50,7 @@ module _ (n : ℕ) (m : Message) where
   initial_follows false _ _ _ (echoed b) = quiet _ _ _ _ _ _ refl (echoed b) refl
   initial_follows false _ _ _ (readied b c) = quiet _ _ _ _ _ _ refl (readied b c) refl
 
-  pub echo_follows : (q : Bool) (x : Stage) (e r : Option ℕ) → Shown x e r None → Follows n m (on_echo q x) x e r None (when q e m.body) (when q r m.body) None
+  pub echo_follows : (q : Bool) (x : Stage) (e r : Option ℕ) → Shown x e r None → Follows n m (made_ready q x) x e r None (when q e m.body) (when q r m.body) None
   unfolding spread
   echo_follows true _ _ _ silent = quiet _ _ _ _ _ _ refl (readied m.body m.body) refl
   echo_follows true _ _ _ (echoed b) = quiet _ _ _ _ _ _ refl (readied b m.body) refl

@@ -21,7 +21,7 @@ use Rattle.agreement.proofs.Counts.{counted_lawful}
 use Rattle.agreement.proofs.Theorem as theorem
 use Rattle.protocol.specs.declared.votes.Kind.TheVariants.{Third}
 use Rattle.protocol.specs.Phases.{kind}
-use Rattle.consensus.specs.Rounds.{Accepted}
+use Rattle.consensus.specs.Rounds.{BallotMap}
 use Rattle.consensus.specs.Validity.{Quorum, Part, Resilient}
 use Rattle.consensus.specs.Accounts.{Account, Outcomes}
 use Rattle.consensus.proofs.Accounts.{outcomes}
@@ -31,7 +31,7 @@ use Rattle.cases.specs.Steps.{round_at, may_advance, step_at, chosen}
 use Rattle.cases.proofs.Going.{law}
 use Rattle.rules.specs.Turns.{faulty, Coin}
 use Rattle.rules.specs.Runs.{Event, Run, begun, after, aside, Told, Advancing, Opened, Ended, Forced, Decided}
-use Rattle.rules.specs.Promises.{Correct, Quiet, Stuck, AtRest, Luck, Promises, Kept}
+use Rattle.rules.specs.Promises.{Correct, Quiet, Stuck, AtRest, Luck, Promises, PromisesKept}
 use Rattle.rules.proofs.Stages.{shown_accepted}
 use Rattle.rules.proofs.Records.{world_of}
 use Rattle.rules.proofs.Cases.{CaseShown, ForcedAt, DecidedAt}
@@ -85,7 +85,7 @@ module _ (line : Line) where
 
     -- one case of the plan
     module _ (c : ℕ) (below : c < line.plan.cases) where
-      abbrev own : ℕ → Accepted
+      abbrev own : ℕ → BallotMap
       own i = ballots_at line.plan h i c
 
       abbrev said : ℕ → ℕ → Option ℕ
@@ -255,5 +255,5 @@ module _ (line : Line) where
       counted = λ i c ci below. (stuck c below i ci, waits c below i ci);
     }
 
-pub kept : (line : Line) (capacity : ℕ) (coin : Coin) → Kept line capacity coin
+pub kept : (line : Line) (capacity : ℕ) (coin : Coin) → PromisesKept line capacity coin
 kept line capacity coin es h ws run = let a = along line capacity coin es h ws run in promises line coin es h ws a.0 a.1 a.2

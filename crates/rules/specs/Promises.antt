@@ -33,8 +33,8 @@ pub record AtRest (line : Line) (h : Held) (ws : List Message) : Type 0 where
   pub stuck : (i c : ℕ) → Correct line i → c < line.plan.cases → Stuck line h i c
 
 -- The code counts valid ballots. By this count a correct process may not advance exactly where it is stuck.
-abbrev pub Counted : Line → Held → Type 0
-Counted line h = (i c : ℕ) → Correct line i → c < line.plan.cases → (may_advance line.plan h i c ≡ false) ↔ Stuck line h i c
+abbrev pub CountsRightly : Line → Held → Type 0
+CountsRightly line h = (i c : ℕ) → Correct line i → c < line.plan.cases → (may_advance line.plan h i c ≡ false) ↔ Stuck line h i c
 
 -- Agreement and validity.
 pub record Agreement (line : Line) (es : List Event) : Type 0 where
@@ -76,11 +76,11 @@ pub record Promises (line : Line) (coin : Coin) (es : List Event) (h : Held) (ws
   pub rest : AtRest line h ws → Completeness line es
   pub luck : Luck line coin es
   pub recorded : Recorded line es h
-  pub counted : Counted line h
+  pub counted : CountsRightly line h
 
 -- for every run on a line
-abbrev pub Kept : Line → ℕ → Coin → Type 0
-Kept line capacity coin = (es : List Event) (h : Held) (ws : List Message) → Run line capacity coin es h ws → Promises line coin es h ws
+abbrev pub PromisesKept : Line → ℕ → Coin → Type 0
+PromisesKept line capacity coin = (es : List Event) (h : Held) (ws : List Message) → Run line capacity coin es h ws → Promises line coin es h ws
 
 -- What can come about. Process 0, at rest, has announced and accepted an item. Each correct process has opened a case, was
 -- forced in its first phase to the side that the coin shows it, and to no other, and has ended the last phase, which is

@@ -7,7 +7,7 @@ pub mod answers;
 ghost use Rattle.std.specs.Prelude.{ℕ, List};
 ghost use Rattle.plan.specs.Kinds.{Line};
 ghost use Rattle.memory.specs.Contents.{Held};
-ghost use Rattle.rules.specs.Promises.{Happening, Kept};
+ghost use Rattle.rules.specs.Promises.{Happening, PromisesKept};
 ghost use Rattle.rules.specs.Turns.{Coin};
 ghost use Rattle.rules.specs.Runs.{Event};
 
@@ -16,7 +16,7 @@ pub use answers::{Advanced, Announced, Delivered};
 // After every run, for every coin: agreement and validity; at rest everything is accepted alike and every case that all
 // opened has ended; a coin that shows what is forced decides.
 pub fn runs_keep_promises()
-    ensures { (line : Line) (capacity : ℕ) (coin : Coin) → Kept line capacity coin }
+    ensures { (line : Line) (capacity : ℕ) (coin : Coin) → PromisesKept line capacity coin }
 {}
 
 // All that these promises speak of comes about in some run, with room for three messages.

@@ -55,7 +55,7 @@ module _ (line : Line) (h : Held) (i c : ℕ) where
   back_refusal = process_tests line h i (unless (nat_lt c line.plan.cases) SubjectOutOfPlan (unless (is_out record_at.slip) SlipRefused None))
 
   -- the call was refused, and nothing changed
-  pub record Refused (why : Option Refusal) (e : Refusal) (after : Held) : Type 0 where
+  pub record SlipCallRefused (why : Option Refusal) (e : Refusal) (after : Held) : Type 0 where
     pub first : why ≡ Some e
     pub memory : after ≡ h
     pub aside : Aside h after
@@ -70,7 +70,7 @@ module _ (line : Line) (h : Held) (i c : ℕ) where
 
   abbrev pub Issued : Result ReleaseSlip Refusal → Held → Type 0
   Issued (Ok slip) after = IsIssued slip after
-  Issued (Err e) after = Refused issue_refusal e after
+  Issued (Err e) after = SlipCallRefused issue_refusal e after
 
   -- A slip says the truth: whatever run led to this memory, it tells that the process decided release in the case.
   abbrev pub Truthful : Result ReleaseSlip Refusal → Type 0
@@ -84,11 +84,11 @@ module _ (line : Line) (h : Held) (i c : ℕ) where
 
   abbrev pub Spent : Slip → Result (Unit {0}) Refusal → Held → Type 0
   Spent state (Ok x) after = IsSpent state after
-  Spent state (Err e) after = Refused back_refusal e after
+  Spent state (Err e) after = SlipCallRefused back_refusal e after
 
 -- the slip came back with the refusal
 pub record NotGivenBack (line : Line) (h : Held) (slip : ReleaseSlip) (e : Refusal) (back : ReleaseSlip) (after : Held) : Type 0 where
-  pub refused : Refused line h slip.process slip.case (back_refusal line h slip.process slip.case) e after
+  pub refused : SlipCallRefused line h slip.process slip.case (back_refusal line h slip.process slip.case) e after
   pub same : back ≡ slip
 
 abbrev pub GivenBack : Slip → Line → Held → ReleaseSlip → Result (Unit {0}) (Refusal × ReleaseSlip) → Held → Type 0

@@ -2,12 +2,12 @@ use Rattle.std.proofs.Common.{◌≡◌, ◌-◌, true, ap, ◌∙◌, arith}
 use Rattle.memory.specs.Contents.{held}
 use Rattle.protocol.specs.Phases.{kind}
 use Rattle.ballots.specs.Places.{covers}
-use Rattle.ballots.specs.Votes.{after, votes}
+use Rattle.ballots.specs.Votes.{after, valid_by_counting}
 use Rattle.ballots.proofs.Reading.{next_row, last_row, valid_row, covered}
 use Rattle.ballots.proofs.rows.valid_ballots.Goals as goal
 
 pub loop-before-init : goal.loop-before-init
-unfolding votes
+unfolding valid_by_counting
 loop-before-init c = c.sifted_row-row.ensures
 
 pub loop-before-preserved : goal.loop-before-preserved
