@@ -9,6 +9,7 @@ use Rattle.agreement.specs.Worlds.{World, Correct, Lawful, counted}
 use Rattle.protocol.specs.Thresholds.{Sound}
 use Rattle.agreement.specs.Runs.{State, Turn, Run}
 
+-- what process i has accepted for a subject
 abbrev pub accepted_at : State → ℕ → Subject → Option ℕ
 accepted_at st i s = (st.recs i s).accepted
 
@@ -16,6 +17,7 @@ accepted_at st i s = (st.recs i s).accepted
 abbrev pub Quiet : World → State → Type 0
 Quiet w st = QuietOf w.n w.faulty st.waiting
 
+-- What holds of reliable broadcast in a state.
 pub record Broadcasts (w : World) (st : State) : Type 0 where
   -- Correct processes accept alike.
   pub agreement : (s : Subject) (i j b c : ℕ) → Correct w i → Correct w j → accepted_at st i s ≡ Some b → accepted_at st j s ≡ Some c → b ≡ c
@@ -38,6 +40,7 @@ pub record Lasts (st next : State) : Type 0 where
   pub said : (s : Subject) (b : ℕ) → st.said s ≡ Some b → next.said s ≡ Some b
   pub accepted : (s : Subject) (i b : ℕ) → accepted_at st i s ≡ Some b → accepted_at next i s ≡ Some b
 
+-- no turn takes back what stands
 abbrev pub Lasting : Type 0
 Lasting = (w : World) (st next : State) → Turn w st next → Lasts st next
 
@@ -45,6 +48,7 @@ Lasting = (w : World) (st next : State) → Turn w st next → Lasts st next
 abbrev pub alone : World
 alone = counted 1 0 1 1 1 (λ _. false)
 
+-- such a state can be come to
 pub record BroadcastHappens (st : State) : Type 0 where
   pub lawful : Lawful alone
   pub run : Run alone st

@@ -6,6 +6,7 @@ use Rattle.protocol.specs.declared.messages.Step.{Step}
 use Rattle.protocol.specs.declared.messages.Step.TheVariants.{Initial, Echo, Ready}
 use Rattle.agreement.specs.Worlds.{World}
 
+-- what a process keeps of one broadcast
 pub record Rec : Type 0 where
   -- the body that this process echoed, sent ready for, accepted
   pub echoed : Option ℕ
@@ -70,5 +71,6 @@ abbrev pub once_accepted : Option ℕ → Rec → Rec → Rec
 once_accepted None new old = new
 once_accepted (Some c) new old = old
 
+-- the record after a message
 unfoldable pub handle : World → ℕ → Step → ℕ → ℕ → Rec → Rec
 handle w o step k b r = once_accepted r.accepted (receive w o step k b r) r

@@ -11,6 +11,7 @@ use Rattle.protocol.specs.Sending.{to_all}
 use Rattle.agreement.specs.Worlds.{World, Correct}
 use Rattle.agreement.specs.Records.{Rec, when, handle}
 
+-- where the machine stands
 pub record State : Type 0 where
   -- what each process keeps of each broadcast
   pub recs : ℕ → Subject → Rec
@@ -19,9 +20,11 @@ pub record State : Type 0 where
   -- the messages on their way
   pub waiting : List Message
 
+-- nothing was echoed, sent ready for, accepted or heard
 abbrev pub blank : Rec
 blank = record { echoed = None; readied = None; accepted = None; echo = λ _. None; ready = λ _. None }
 
+-- where every run begins
 abbrev pub start : State
 start = record { recs = λ _ _. blank; said = λ _. None; waiting = [] }
 
@@ -61,6 +64,7 @@ leaving ms st = record { recs = st.recs; said = st.said; waiting = ms }
 abbrev pub received : World → Message → List Message → State → State
 received w m ms st = record { recs = delivered w m st.recs; said = st.said; waiting = ms }
 
+-- A turn leads from a state to another.
 pub data Turn (w : World) (st : State) : State → Type 0 where
   -- A correct originator tells all processes a body, once for each subject.
   tell : (s : Subject) (b : ℕ) (ms : List Message) → Correct w (originator_of s) → st.said s ≡ None → Same ms (to_all w.n (originator_of s) Initial s b ++ st.waiting) → Turn w st (told s b ms st)

@@ -4,6 +4,7 @@ use Rattle.protocol.specs.Counting.{below}
 use Rattle.protocol.specs.Faults.{CorrectOf}
 use Rattle.protocol.specs.Thresholds.{Sound}
 
+-- What a run takes place in.
 pub record World : Type 0 where
   -- the processes are 0 to n - 1
   pub n : ℕ
@@ -16,6 +17,7 @@ pub record World : Type 0 where
   pub ready : ℕ
   pub accept : ℕ
 
+-- process i is one of the n, and not faulty
 abbrev pub Correct : World → ℕ → Type 0
 Correct w i = CorrectOf w.n w.faulty i
 
@@ -25,6 +27,7 @@ pub record Measure (n : ℕ) (weight : (ℕ → Bool) → ℕ) : Type 0 where
   pub monotone : (p q : ℕ → Bool) → ((k : ℕ) → k < n → p k ≡ true → q k ≡ true) → weight p ≤ weight q
   pub modular : (p q : ℕ → Bool) → weight p + weight q ≡ weight (λ k. p k || q k) + weight (λ k. p k && q k)
 
+-- What is asked of a world.
 pub record Lawful (w : World) : Type 0 where
   -- a message has room for the names 0 to 15
   pub named : w.n ≤ 16
@@ -36,5 +39,6 @@ pub record Lawful (w : World) : Type 0 where
 abbrev pub counted : (n t echo ready accept : ℕ) → (ℕ → Bool) → World
 counted n t echo ready accept faulty = record { n = n; t = t; faulty = faulty; weight = below n; echo = echo; ready = ready; accept = accept }
 
+-- where each process weighs 1, a world meets what is asked
 abbrev pub Counting : Type 0
 Counting = (n t echo ready accept : ℕ) (faulty : ℕ → Bool) → n ≤ 16 → below n faulty ≤ t → Sound n t echo ready accept → Lawful (counted n t echo ready accept faulty)

@@ -13,9 +13,11 @@ abbrev pub hear_over : Option ℕ → ℕ → ℕ → List (Option ℕ) → List
 hear_over None k b xs = slice_set xs k (Some b)
 hear_over (Some a) k b xs = xs
 
+-- the first body in a place stands
 abbrev pub hear : ℕ → ℕ → List (Option ℕ) → List (Option ℕ)
 hear k b xs = hear_over (slice_index_or xs k None) k b xs
 
+-- whether a place holds b
 abbrev pub says : ℕ → Option ℕ → Bool
 says b o = has o b
 
@@ -35,5 +37,6 @@ agreeing n p m Initial xs = 0
 agreeing n p m Echo xs = saying n p.echoes m.body xs
 agreeing n p m Ready xs = saying n p.readies m.body xs
 
+-- a memory with other body places
 abbrev pub with_bodies : List (Option ℕ) → Held → Held
 with_bodies xs h = record { broadcasts = h.broadcasts; bodies = xs; cases = h.cases; serials = h.serials }

@@ -13,6 +13,7 @@ use Rattle.broadcast.specs.Hearing.{listened, agreeing, with_bodies}
 use Rattle.broadcast.specs.Stages.{nothing, turn, put}
 use Rattle.broadcast.specs.declared.reactions.Reaction.{Reaction}
 
+-- memory after a message, and what the process does
 pub record Outcome : Type 0 where
   pub held : Held
   pub reaction : Reaction
@@ -43,5 +44,6 @@ handled plan p m h =
 abbrev pub admits : Plan → ℕ → Message → Held → Bool
 admits plan process m h = nat_lt m.sender plan.n && (enough plan h && (nat_lt process plan.n && within plan m.subject))
 
+-- what a message does at a process; nothing where it is not admitted
 abbrev pub received : Plan → ℕ → Message → Held → Outcome
 received plan process m h = cond (admits plan process m h) (handled plan (placed plan (place plan process m.subject)) m h) (outcome h nothing)

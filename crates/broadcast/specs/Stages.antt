@@ -15,6 +15,7 @@ pub record Turned : Type 0 where
   pub next : Option Stage
   pub reaction : Reaction
 
+-- no message is sent and nothing accepted
 abbrev pub nothing : Reaction
 nothing = record { echo = false; ready = false; accepted = false }
 
@@ -35,17 +36,19 @@ ready_sends Echoed = record { echo = false; ready = true; accepted = false }
 ready_sends Readied = nothing
 ready_sends (Accepted b) = nothing
 
--- enough echoes make a process ready
+-- enough echoes, or enough readies, make a process ready
 abbrev pub made_ready : Bool → Stage → Turned
 made_ready enough s = cond enough (record { next = Some Readied; reaction = ready_sends s }) stay
 
+-- the process accepts body b as well
 abbrev pub accept : ℕ → Turned → Turned
 accept b t = record { next = Some (Accepted b); reaction = record { echo = t.reaction.echo; ready = t.reaction.ready; accepted = true } }
 
--- enough readies make it ready too, and then a full number of them makes it accept
+-- and a full number of readies makes it accept
 abbrev pub on_ready : Bool → Bool → ℕ → Stage → Turned
 on_ready enough full b s = let t = made_ready enough s in cond full (accept b t) t
 
+-- a message by its step, at a stage that has accepted nothing
 abbrev pub by_step : Thresholds → Message → ℕ → Stage → Step → Turned
 by_step limits m count s Initial = on_initial (m.sender == originator_of m.subject) s
 by_step limits m count s Echo = made_ready (nat_le limits.echo count) s
@@ -63,6 +66,7 @@ abbrev pub onward : Option Stage → Stage → Stage
 onward None s = s
 onward (Some s) old = s
 
+-- record `at` with another stage, if there is one
 abbrev pub put : ℕ → Option Stage → List BroadcastRecord → List BroadcastRecord
 put at None rs = rs
 put at (Some s) rs = slice_set rs at (record { stage = s })

@@ -24,6 +24,7 @@ pub record NoneFree (e : Refusal) (capacity : ℕ) (before after : List Message)
   pub full : capacity ≤ length before
   pub same : after ≡ before
 
+-- what posting answers, and what then waits
 abbrev pub Posted : Result (Unit {0}) Refusal → Message → ℕ → List Message → List Message → Type 0
 Posted (Ok _) m capacity before after = Added m capacity before after
 Posted (Err e) m capacity before after = NoneFree e capacity before after
@@ -39,6 +40,7 @@ pub record Missing (e : Refusal) (process : ℕ) (before after : List Message) :
   pub none : waiting_for process before ≡ 0
   pub same : after ≡ before
 
+-- what taking answers, and what then waits
 abbrev pub Taken : Result Message Refusal → ℕ → List Message → List Message → Type 0
 Taken (Ok m) process before after = Removed m process before after
 Taken (Err e) process before after = Missing e process before after

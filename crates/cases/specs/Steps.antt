@@ -26,9 +26,11 @@ over bound keep release = cond (nat_lt bound keep) (Some side.Keep) (cond (nat_l
 abbrev pub side_above : ℕ → (Ballot → ℕ) → Option Side
 side_above bound count = over bound (count (proposal side.Keep)) (count (proposal side.Release))
 
+-- more than t proposals force a side
 abbrev pub forced_side : ℕ → (Ballot → ℕ) → Option Side
 forced_side t count = side_above t count
 
+-- and more than 2t decide it
 abbrev pub decided_side : ℕ → (Ballot → ℕ) → Option Side
 decided_side t count = side_above (2 * t) count
 
@@ -37,6 +39,7 @@ abbrev pub proposed : ℕ → (Ballot → ℕ) → Ballot
 proposed n count =
     cond (nat_lt n (2 * count (vote side.Keep))) (proposal side.Keep) (cond (nat_lt n (2 * count (vote side.Release))) (proposal side.Release) Open)
 
+-- the vote for a side
 abbrev pub voted : Option Side → Option Ballot
 voted None = None
 voted (Some v) = Some (vote v)

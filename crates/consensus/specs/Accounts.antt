@@ -13,11 +13,15 @@ use Rattle.consensus.specs.Maps.{AcceptedAlike}
 -- How a process that has accepted A left round q: by a set, which forced and decided the sides that are told. Its next
 -- ballot after a third round was the forced side or the coin's.
 pub record Left (n t : ℕ) (A : BallotMap) (coin : Side) (q : ℕ) (next : Option ℕ) (forced decided : Side → Type 0) : Type 0 where
+  -- the set, and that its ballots are valid
   pub by : ℕ → Bool
   pub quorum : Quorum n t A q by
+  -- what is said after a third round: the side that the set forces, or the coin's
   pub tossed : kind q ≡ Third → (b : ℕ) → next ≡ Some b → Tossed t (tally n A q by) coin b
+  -- a side is told as forced if the set forces it, and one is told if it forces any
   pub forces : (v : Side) → forced v → Forces t (tally n A q by) v
   pub forced_some : kind q ≡ Third → (v : Side) → Forces t (tally n A q by) v → (u : Side) × forced u
+  -- and so it is with what is decided, in third rounds only
   pub third : (v : Side) → decided v → kind q ≡ Third
   pub decides : (v : Side) → decided v → Decides t (tally n A q by) v
   pub decided_some : kind q ≡ Third → (v : Side) → Decides t (tally n A q by) v → (u : Side) × decided u
@@ -25,12 +29,16 @@ pub record Left (n t : ℕ) (A : BallotMap) (coin : Side) (q : ℕ) (next : Opti
 -- Process o has accepted own o, said said o r in round r, and is in the last of rounds o rounds; coin o r is what it
 -- would toss in round r, and forced o r and decided o r are told of it.
 pub record Account (n t last : ℕ) (faulty : ℕ → Bool) (coin : ℕ → ℕ → Side) (own : ℕ → BallotMap) (said : ℕ → ℕ → Option ℕ) (rounds : ℕ → ℕ) (forced decided : ℕ → ℕ → Side → Type 0) : Type 0 where
+  -- correct processes accept alike, and of one another what was said
   pub alike : AcceptedAlike n faulty own
   pub honest : (i o r b : ℕ) → CorrectOf n faulty i → CorrectOf n faulty o → own i o r ≡ Some b → said o r ≡ Some b
+  -- in each round up to its own a process said a ballot that it may say, and none in a later one
   pub spoke : (o r : ℕ) → CorrectOf n faulty o → r < rounds o → r < last → (b : ℕ) × (said o r ≡ Some b) × Justified n t (own o) r b
   pub unsaid : (o r : ℕ) → CorrectOf n faulty o → rounds o ≤ r → said o r ≡ None
+  -- and it left each round before its own by a set
   pub left : (o r : ℕ) → CorrectOf n faulty o → suc r < rounds o → Left n t (own o) (coin o r) r (said o (suc r)) (forced o r) (decided o r)
 
+-- What follows of an account.
 pub record Outcomes (n t last : ℕ) (faulty : ℕ → Bool) (coin : ℕ → ℕ → Side) (own : ℕ → BallotMap) (said : ℕ → ℕ → Option ℕ) (rounds : ℕ → ℕ) (forced decided : ℕ → ℕ → Side → Type 0) : Type 0 where
   -- CorrectOf processes decide one side.
   pub agreement : (i j q r : ℕ) (u v : Side) → CorrectOf n faulty i → CorrectOf n faulty j → suc q < rounds i → suc r < rounds j → decided i q u → decided j r v → u ≡ v

@@ -18,6 +18,7 @@ pub record Grown (n t : ℕ) (A G : BallotMap) (r : ℕ) : Type 0 where
   -- what may be said by the part is valid in the whole, once it is accepted there
   pub justified : (o b : ℕ) → Justified n t A r b → G o r ≡ Some b → Valid n t G r o b
 
+-- for all maps of which one is a part of the other
 abbrev pub Monotone : Type 0
 Monotone = (n t : ℕ) (A G : BallotMap) → Part A G → (r : ℕ) → Grown n t A G r
 
@@ -26,6 +27,7 @@ pub record OneSide (n t : ℕ) (G : BallotMap) (r : ℕ) : Type 0 where
   pub proposals : (i j : ℕ) (u v : Side) → Valid n t G r i (ballot_number (proposal u)) → Valid n t G r j (ballot_number (proposal v)) → u ≡ v
   pub forced : (S T : ℕ → Bool) (u v : Side) → Quorum n t G r S → Quorum n t G r T → Forces t (tally n G r S) u → Forces t (tally n G r T) v → u ≡ v
 
+-- in every round of every map
 abbrev pub Proposals : Type 0
 Proposals = (n t : ℕ) (G : BallotMap) (r : ℕ) → OneSide n t G r
 
@@ -34,6 +36,7 @@ pub record Locked (n t : ℕ) (G : BallotMap) (r : ℕ) (v : Side) : Type 0 wher
   pub forced : (S : ℕ → Bool) → Quorum n t G r S → Forces t (tally n G r S) v
   pub next : (o b : ℕ) → Valid n t G (suc r) o b → b ≡ ballot_number (vote v)
 
+-- for every set of a third round
 abbrev pub Locking : Type 0
 Locking = (n t : ℕ) (G : BallotMap) (r : ℕ) → kind r ≡ Third → (S : ℕ → Bool) (v : Side) → Quorum n t G r S → Decides t (tally n G r S) v → Locked n t G r v
 

@@ -18,6 +18,7 @@ pub record Joins (n : ℕ) (faulty : ℕ → Bool) (own : ℕ → BallotMap) (G 
   pub part : (i : ℕ) → CorrectOf n faulty i → Part (own i) G
   pub from : (o r b : ℕ) → G o r ≡ Some b → (i : ℕ) × CorrectOf n faulty i × (own i o r ≡ Some b)
 
+-- maps that agree wherever they overlap are parts of one
 abbrev pub Joining : Type 0
 Joining = (n : ℕ) (faulty : ℕ → Bool) (own : ℕ → BallotMap) → AcceptedAlike n faulty own → (G : BallotMap) × Joins n faulty own G
 
@@ -48,6 +49,7 @@ pub record OwnDecisions (n t : ℕ) (faulty : ℕ → Bool) (own : ℕ → Ballo
   -- After a lucky coin they decide its side from the next phase on.
   pub luck : (r q i : ℕ) (S : ℕ → Bool) (c : Side) (used : ℕ → ℕ → Bool) → kind r ≡ Third → Lucky n t faulty own r used c → suc r < q → CorrectOf n faulty i → kind q ≡ Third → Quorum n t (own i) q S → DecidesBy n t own i q S c
 
+-- for all maps that correct processes have accepted alike
 abbrev pub Deciding : Type 0
 Deciding = (n t : ℕ) (faulty : ℕ → Bool) (own : ℕ → BallotMap) → Resilient n t faulty → AcceptedAlike n faulty own → OwnDecisions n t faulty own
 

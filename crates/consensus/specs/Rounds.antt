@@ -18,10 +18,11 @@ BallotMap = ℕ → ℕ → Option ℕ
 unfoldable pub tally : ℕ → BallotMap → ℕ → (ℕ → Bool) → Ballot → ℕ
 tally n G r S b = below n (λ k. S k && has (G k r) (ballot_number b))
 
--- What a set says depends on how many of each ballot it has.
+-- What a set says depends on how many of each ballot it has. More than t proposals of v force v,
 abbrev pub Forces : ℕ → (Ballot → ℕ) → Side → Type 0
 Forces t count v = t < count (proposal v)
 
+-- and more than 2t decide it
 abbrev pub Decides : ℕ → (Ballot → ℕ) → Side → Type 0
 Decides t count v = 2 * t < count (proposal v)
 

@@ -11,6 +11,7 @@ pub record FullSet (n t : ℕ) (V : ℕ → ℕ → Type 0) (S : ℕ → Bool) :
   pub size : below n S ≡ n - t
   pub member : (k : ℕ) → k < n → S k ≡ true → (b : ℕ) × V k b
 
+-- b votes for a side
 abbrev pub IsVote : ℕ → Type 0
 IsVote b = (v : Side) × (b ≡ ballot_number (vote v))
 

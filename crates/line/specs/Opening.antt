@@ -38,6 +38,7 @@ pub record Begins (capacity : ℕ) (line : Line) (h : Held) : Type 0 where
   pub run : (coin : Coin) → Run line capacity coin [] h []
   pub kept : (coin : Coin) → PromisesKept line capacity coin
 
+-- what is promised where opening is not refused
 abbrev pub Promised : ℕ → Result Line (Refusal × Draft) → Held → Type 0
 Promised capacity (Ok line) h = Begins capacity line h
 Promised capacity (Err refused) h = Unit {0}

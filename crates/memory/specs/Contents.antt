@@ -9,6 +9,7 @@ use Rattle.memory.specs.declared.records.Slip.TheVariants.{Absent}
 use Rattle.memory.specs.declared.records.Stage.{Stage}
 use Rattle.memory.specs.declared.records.Stage.TheVariants.{Silent, Echoed, Readied, Accepted}
 
+-- what the four parts of a memory hold
 pub record Held : Type 0 where
   pub broadcasts : List BroadcastRecord
   pub bodies : List (Option ℕ)
@@ -31,6 +32,7 @@ wiped zero x xs = xs
 wiped (suc n) x [] = []
 wiped (suc n) x (y ∷ xs) = x ∷ wiped n x xs
 
+-- the needed places cleared, and the others as they were
 abbrev pub cleared : Plan → Held → Held
 cleared plan h =
     let needs = needs_of plan in
@@ -41,6 +43,7 @@ cleared plan h =
       serials = wiped needs.next_serials 0 h.serials;
     }
 
+-- What stands in a place; past the end, what a cleared place holds.
 abbrev pub stage_at : Held → ℕ → Stage
 stage_at h at = (slice_index_or h.broadcasts at silent).stage
 
@@ -57,6 +60,7 @@ case_at h at = slice_index_or h.cases at unopened
 abbrev pub serial_at : Held → ℕ → ℕ
 serial_at h process = slice_index h.serials process
 
+-- memory with another case record, and with another serial
 abbrev pub with_case : ℕ → CaseRecord → Held → Held
 with_case at r h = record { broadcasts = h.broadcasts; bodies = h.bodies; cases = slice_set h.cases at r; serials = h.serials }
 

@@ -34,16 +34,18 @@ place plan i subject = (i * plan.n + originator_of subject) * subjects plan + nu
 abbrev pub body_at : Plan → Held → ℕ → Subject → Option ℕ
 body_at plan h i s = accepted_body (stage_at h (place plan i s))
 
--- the first echo and the first ready that record k has heard; the sender's number is added
+-- where record k keeps the echo and the ready of process 0; the sender's number is added
 abbrev pub echoes : Plan → ℕ → ℕ
 echoes plan k = 2 * plan.n * k
 
 abbrev pub readies : Plan → ℕ → ℕ
 readies plan k = 2 * plan.n * k + plan.n
 
+-- the places of record k
 abbrev pub placed : Plan → ℕ → Place
 placed plan k = record { «record» = k; echoes = echoes plan k; readies = readies plan k }
 
+-- the places of the record of a subject, if the plan has process and subject
 abbrev pub place_of : Plan → ℕ → Subject → Option Place
 place_of plan i subject = cond (nat_lt i plan.n && within plan subject) (Some (placed plan (place plan i subject))) None
 
@@ -51,6 +53,7 @@ place_of plan i subject = cond (nat_lt i plan.n && within plan subject) (Some (p
 abbrev pub case_place : Plan → ℕ → ℕ → ℕ
 case_place plan i c = i * plan.cases + c
 
+-- the same, if the plan has process and case
 abbrev pub case_place_of : Plan → ℕ → ℕ → Option ℕ
 case_place_of plan i c = cond (nat_lt i plan.n && nat_lt c plan.cases) (Some (case_place plan i c)) None
 

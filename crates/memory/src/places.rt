@@ -5,7 +5,7 @@ pub mod slots;
 pub struct Place {
     // Of the broadcast record.
     pub record: usize,
-    // Of the first body that it heard as an echo and as a ready. Those of the other senders follow.
+    // Of the echo and of the ready of process 0. Those of the other senders follow.
     pub echoes: usize,
     pub readies: usize,
 }

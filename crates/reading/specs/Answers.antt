@@ -27,6 +27,7 @@ abbrev pub value_in : {V : Type 0} → Option V → Reading V
 value_in None = Unreadable
 value_in (Some v) = Value v
 
+-- what is read of a body that may have been accepted
 abbrev pub reading_of : {V : Type 0} → (ℕ → Option V) → Option ℕ → Reading V
 reading_of unpacked None = Nothing
 reading_of unpacked (Some b) = value_in (unpacked b)
@@ -36,6 +37,7 @@ abbrev pub unless_refused : {X : Type 0} → Option Refusal → X → Result X R
 unless_refused None x = Ok x
 unless_refused (Some e) x = Err e
 
+-- what reading answers
 abbrev pub answer : {V : Type 0} → (ℕ → Option V) → Line → Held → ℕ → Subject → Result (Reading V) Refusal
 answer unpacked line h i s = unless_refused (read_refusal line h i s) (reading_of unpacked (body_at line.plan h i s))
 

@@ -15,6 +15,7 @@ use Rattle.cases.specs.Steps.{round_at, may_advance}
 use Rattle.rules.specs.Turns.{faulty, Coin}
 use Rattle.rules.specs.Runs.{Event, Run, Announced, Accepted, Opened, Ended, Forced, Decided, decision_of}
 
+-- process i is one of the line's processes, and not faulty
 abbrev pub Correct : Line → ℕ → Type 0
 Correct line i = CorrectOf line.plan.n (faulty line) i
 
@@ -71,6 +72,7 @@ pub record Recorded (line : Line) (es : List Event) (h : Held) : Type 0 where
   pub opened : (i c : ℕ) → Correct line i → ((v : Side) × Opened es i c v) ↔ ((c < line.plan.cases) × (0 < round_at line.plan h i c))
   pub ended : (i c k : ℕ) → Correct line i → 1 ≤ k → Ended es i c k ↔ ((c < line.plan.cases) × (3 * k < round_at line.plan h i c))
 
+-- What holds after a run that told es and led to memory h and waiting messages ws.
 pub record Promises (line : Line) (coin : Coin) (es : List Event) (h : Held) (ws : List Message) : Type 0 where
   pub agreement : Agreement line es
   pub rest : AtRest line h ws → Completeness line es

@@ -139,20 +139,23 @@ deciding i c (forged m posted) before = before
 deciding i c (delivered j pick m posted accepted) before = before
 deciding i c (advanced j d r forced decides reached posted) before = cond (i == j && c == d) (decision_after before decides (r / 3)) before
 
+-- What a run has told of a process: that it announced body b under serial k,
 abbrev pub Announced : List Event → ℕ → ℕ → ℕ → Type 0
 Announced es i k b = Told (Announcing i k b) es
 
+-- accepted body b for a subject,
 abbrev pub Accepted : List Event → ℕ → Subject → ℕ → Type 0
 Accepted es i s b = Told (Accepting i s b) es
 
+-- opened case c with a vote for v,
 abbrev pub Opened : List Event → ℕ → ℕ → Side → Type 0
 Opened es i c v = Told (Opening i c v) es
 
--- process i left the third round of phase k
+-- left the third round of phase k,
 abbrev pub Ended : List Event → ℕ → ℕ → ℕ → Type 0
 Ended es i c k = (f x : Option Side) × Told (Advancing i c (3 * k) f x) es
 
--- and the ballots that it went by forced v
+-- and was forced to v there.
 abbrev pub Forced : List Event → ℕ → ℕ → ℕ → Side → Type 0
 Forced es i c k v = (x : Option Side) × Told (Advancing i c (3 * k) (Some v) x) es
 
@@ -161,5 +164,6 @@ abbrev pub decision_of : List Event → ℕ → ℕ → Option Decision
 decision_of [] i c = None
 decision_of (e ∷ es) i c = deciding i c e (decision_of es i c)
 
+-- the run told that process i decided v in phase k, for the first time in case c
 abbrev pub Decided : List Event → ℕ → ℕ → Side → ℕ → Type 0
 Decided es i c v k = decision_of es i c ≡ Some (record { side = v; phase = k })

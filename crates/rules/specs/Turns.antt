@@ -38,6 +38,7 @@ pub data Turn : Type 0 where
   Deliver : (process pick : ℕ) → Turn
   Advance : (process case : ℕ) → Turn
 
+-- process i is marked
 abbrev pub faulty : Line → ℕ → Bool
 faulty line i = marked line.marks i
 

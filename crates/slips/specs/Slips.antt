@@ -20,6 +20,7 @@ abbrev pub releases : Side → Bool
 releases Keep = false
 releases Release = true
 
+-- release was decided
 abbrev pub decides_release : Option Decision → Bool
 decides_release None = false
 decides_release (Some d) = releases d.side
@@ -91,6 +92,7 @@ pub record NotGivenBack (line : Line) (h : Held) (slip : ReleaseSlip) (e : Refus
   pub refused : SlipCallRefused line h slip.process slip.case (back_refusal line h slip.process slip.case) e after
   pub same : back ≡ slip
 
+-- what giving a slip back answers, and what memory then holds
 abbrev pub GivenBack : Slip → Line → Held → ReleaseSlip → Result (Unit {0}) (Refusal × ReleaseSlip) → Held → Type 0
 GivenBack state line h slip (Ok x) after = IsSpent line h slip.process slip.case state after
 GivenBack state line h slip (Err r) after = NotGivenBack line h slip r.0 r.1 after

@@ -13,6 +13,7 @@ use Rattle.protocol.specs.declared.votes.Kind.{Kind}
 use Rattle.protocol.specs.declared.votes.Kind.TheVariants.{First, Second, Third}
 use Rattle.cases.specs.Steps.{step_by}
 
+-- a row of the table
 pub data Row : Type 0 where
   -- n and t have the thresholds echo, ready and accept
   sheet : (n t echo ready accept : ℕ) → Row
@@ -23,6 +24,7 @@ pub data Row : Type 0 where
   -- the record of these fields has this body
   body : (kind colour station day shelf packed : ℕ) → Row
 
+-- how many there are of a ballot
 abbrev pub cast : ℕ → ℕ → ℕ → ℕ → ℕ → Ballot → ℕ
 cast k r pk pr o Keep = k
 cast k r pk pr o Release = r
@@ -30,14 +32,17 @@ cast k r pk pr o ProposeKeep = pk
 cast k r pk pr o ProposeRelease = pr
 cast k r pk pr o Open = o
 
+-- the same with proposals of one side alone
 abbrev pub cast_for : Side → ℕ → ℕ → Ballot → ℕ
 cast_for side.Keep k o = cast 0 0 k 0 o
 cast_for side.Release k o = cast 0 0 0 k o
 
+-- the body of a record that was made
 abbrev pub body_in : Result Record Refusal → Option ℕ
 body_in (Ok r) = Some (body_of r)
 body_in (Err e) = None
 
+-- what a row says
 abbrev pub Holds : Row → Type 0
 Holds (sheet n t e r a) = thresholds_of n t ≡ record { echo = e; ready = r; accept = a }
 Holds (step n t q k r pk pr o next forced decides) = step_by n t q (cast k r pk pr o) ≡ record { next = next; forced = forced; decides = decides }
