@@ -6,14 +6,13 @@ mod claims;
 mod finds;
 mod release;
 mod story;
-mod watches;
 mod words;
 
 use carriers::Basket;
 use memory::{BroadcastRecord, CaseRecord, Memory};
 use protocol::Message;
 use story::{Story, open_four};
-use watches::Watch;
+use watch::Watch;
 
 // Lends the memory that four processes with two serials each need for a case of two phases.
 fn main(rt: HostRuntime) -> anyhow::Result<()> {

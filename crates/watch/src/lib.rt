@@ -1,4 +1,6 @@
-// A layer over any carrier that remembers which message was taken last.
+//! A layer over any carrier that remembers which message was taken last.
+#![tactic(auto)]
+
 ghost use Rattle.std.specs.Prelude.{◌≡◌, Some, None};
 
 use carrier::Carrier;
