@@ -1,5 +1,5 @@
 -- After every run the promises hold.
-use Rattle.std.proofs.Common.{◌≡◌, ℕ, zero, suc, ◌+◌, ◌-◌, ◌*◌, ◌/◌, ◌<◌, ◌≤◌, true, false, List, [], Some, None, Option, sym, refl, ap, ◌∙◌, subst, ⊎_elim, arith}
+use Rattle.std.proofs.Common.{◌≡◌, ℕ, zero, suc, ◌+◌, ◌-◌, ◌*◌, ◌/◌, ◌<◌, ◌≤◌, true, false, List, [], Some, None, Option, sym, refl, ap, ◌∙◌, subst, ap₂, ⊎_elim, arith}
 use Rattle.std.proofs.lemmas.Bool.{and_from, cond-true, cond-false, cases_Bool, cases_lt}
 use Rattle.protocol.specs.Numbers.{ballot_number, vote}
 use Rattle.protocol.specs.Thresholds.{Sound}
@@ -30,7 +30,7 @@ use Rattle.ballots.proofs.Reading.{ballot_within, covered}
 use Rattle.cases.specs.Steps.{round_at, may_advance, step_at, chosen}
 use Rattle.cases.proofs.Going.{law}
 use Rattle.rules.specs.Turns.{faulty, Coin}
-use Rattle.rules.specs.Runs.{Event, Run, begun, after, aside, Told, Advancing, Opened, Ended, Forced, Decided}
+use Rattle.rules.specs.Runs.{Event, refused, announced, opened, forged, delivered, advanced, Run, begun, after, aside, Told, Advancing, Opened, Ended, Forced, Decided}
 use Rattle.rules.specs.Promises.{Correct, Quiet, Stuck, AtRest, Luck, Promises, PromisesKept}
 use Rattle.rules.proofs.Stages.{shown_accepted}
 use Rattle.rules.proofs.Records.{world_of}
@@ -39,7 +39,7 @@ use Rattle.rules.proofs.Ballots.{ballot_accepted, accepted_ballot}
 use Rattle.rules.proofs.Shows.{Shows, at_start}
 use Rattle.rules.proofs.Steps.{follow}
 use Rattle.rules.proofs.CaseSteps.{step_aside}
-use Rattle.rules.proofs.Told.{Tells, decision_told, decision_stands}
+use Rattle.rules.proofs.Told.{Tells, FirstOf, decision_told, decision_stands, first_after}
 
 -- rounds 2, 5, 8 and so on, from 0, are third rounds
 third : (m : ℕ) → kind (3 * m + 2) ≡ Third
@@ -70,7 +70,22 @@ module _ (line : Line) where
         let before = along es h ws run in
         (before.0, before.1, step_aside line capacity coin es h ws before.0 before.2 next same)
 
-  module _ (coin : Coin) (es : List Event) (h : Held) (ws : List Message) (st : State) (run : machine.Run (world_of line) st) (shows : Shows line coin es h ws st) where
+    -- the decision that stands is the first that is told
+    pub firsts : (es : List Event) (h : Held) (ws : List Message) → Run line capacity coin es h ws → (i c : ℕ) → Correct line i → FirstOf i c es
+    firsts _ _ _ (begun h large) i c ci = λ d e r f v t. absurd t
+    firsts _ _ _ (aside {es} {h} {next} {ws} run same) i c ci = firsts es h ws run i c ci
+    firsts _ _ _ (after {es} {h} {next} {ws} {left} run (refused turn e) happens) i c ci = λ d told r f v. ⊎_elim (λ z. absurd z) (firsts es h ws run i c ci d told r f v)
+    firsts _ _ _ (after {es} {h} {next} {ws} {left} run (announced j b k posted) happens) i c ci = λ d told r f v. ⊎_elim (λ z. absurd z) (firsts es h ws run i c ci d told r f v)
+    firsts _ _ _ (after {es} {h} {next} {ws} {left} run (opened j k u posted) happens) i c ci = λ d told r f v. ⊎_elim (λ z. absurd z) (firsts es h ws run i c ci d told r f v)
+    firsts _ _ _ (after {es} {h} {next} {ws} {left} run (forged m posted) happens) i c ci = λ d told r f v. ⊎_elim (λ z. absurd z) (firsts es h ws run i c ci d told r f v)
+    firsts _ _ _ (after {es} {h} {next} {ws} {left} run (delivered j pick m posted accepted) happens) i c ci = λ d told r f v. ⊎_elim (λ z. absurd z) (firsts es h ws run i c ci d told r f v)
+    firsts _ _ _ (after {es} {h} {next} {ws} {left} run (advanced j k q g x reached posted) happens) i c ci =
+        first_after i c es j k q g x reached posted (firsts es h ws run i c ci) (λ ji kc r f y t.
+        let a = along es h ws run in
+        let below = a.2.cases.advancers i c r f y t in
+        omega (arith, happens.from, ap₂ (round_at line.plan h) ji kc, ((a.2.cases.each i c ci.0 below).bound r f y t).1))
+
+  module _ (coin : Coin) (es : List Event) (h : Held) (ws : List Message) (st : State) (run : machine.Run (world_of line) st) (shows : Shows line coin es h ws st) (first : (i c : ℕ) → Correct line i → FirstOf i c es) where
     abbrev n : ℕ
     n = line.plan.n
 
@@ -181,12 +196,12 @@ module _ (line : Line) where
             let x = accepted k o r b ck e in
             accepted_ballot line h st.recs shows.mirrors.records i c o r b ci.0 x.0 (all.totality (rests rest.quiet) (Ballot o c (suc r)) k i b ck ci x.1)
 
-        delivered : (i k r b : ℕ) → Correct line i → Correct line k → r < last → said k r ≡ Some b → own i k r ≡ Some b
-        delivered i k r b ci ck lt e =
+        said_arrived : (i k r b : ℕ) → Correct line i → Correct line k → r < last → said k r ≡ Some b → own i k r ≡ Some b
+        said_arrived i k r b ci ck lt e =
             accepted_ballot line h st.recs shows.mirrors.records i c k r b ci.0 (ballot_within line.plan k c (suc r) ck.0 below (omega arith) (omega arith)) (all.delivery (rests rest.quiet) (Ballot k c (suc r)) i b ck ci e)
 
         ends : (i : ℕ) → Correct line i → Ended es i c line.plan.phases
-        ends i ci = (held i ci).gone last (omega (arith, line.plan.first)) (settles.ending complete delivered (λ k r S ck. rest.stuck k c ck below r S) (λ k ck. let v = opened k ck in began k ck v.0 v.1) i ci)
+        ends i ci = (held i ci).gone last (omega (arith, line.plan.first)) (settles.ending complete said_arrived (λ k r S ck. rest.stuck k c ck below r S) (λ k ck. let v = opened k ck in began k ck v.0 v.1) i ci)
 
       -- a coin that shows what is forced
       module _ (m : ℕ) (v : Side) (shared : (o : ℕ) → Correct line o → coin o c (suc m) ≡ v) (only : (o : ℕ) (u : Side) → Correct line o → Forced es o c (suc m) u → u ≡ v) (i : ℕ) (ci : Correct line i) (ended : Ended es i c (suc (suc m))) where
@@ -201,12 +216,12 @@ module _ (line : Line) where
             settles.luck r v (third m) (λ o co. ap (coin o c) (omega (arith, round_is)) ∙ shared o co) (λ o u co lt x. only o u co (x.0, subst (λ (k : ℕ). Told (Advancing o c k (Some u) x.0) es) round_is x.1)) i (3 * suc m + 2) ci (third (suc m)) (omega arith)
             (omega (arith, ((held i ci).bound (3 * suc (suc m)) ended.0 ended.1 ended.2).1))
 
-        lucky : (l : ℕ) × Decided es i c v l
+        lucky : (l : ℕ) × (l ≤ suc (suc m)) × Decided es i c v l
         lucky =
             let d = decides in
             let s = decision_stands i c es (suc (3 * suc m + 2)) d.0 v d.1 in
             let is = agree i i s.0.side v ci ci (decision_told i c es s.0 s.1) (suc (3 * suc m + 2), d.0, d.1) in
-            (s.0.phase, s.1 ∙ ap (λ w. Some (record { side = w; phase = s.0.phase })) is)
+            (s.0.phase, omega (arith, first i c ci s.0 s.1 (suc (3 * suc m + 2)) d.0 v d.1), s.1 ∙ ap (λ w. Some (record { side = w; phase = s.0.phase })) is)
 
     tells_below : (i c : ℕ) (v : Side) → Tells es i c v → c < line.plan.cases
     tells_below i c v t = shows.cases.advancers i c t.0 t.1 (Some v) t.2
@@ -215,11 +230,12 @@ module _ (line : Line) where
     told_decision i c k v d = decision_told i c es (record { side = v; phase = k }) d
 
     luck : Luck line coin es
-    luck c zero v first shared only i ci ended = absurd (omega arith)
-    luck c (suc m) v first shared only i ci ended =
+    luck c zero v from_one shared only i ci ended = absurd (omega arith)
+    luck c (suc m) v from_one shared only i ci ended =
         let next : suc m + 1 ≡ suc (suc m) = omega arith in
         let e = subst (Ended es i c) next ended in
-        lucky c (shows.cases.advancers i c _ e.0 e.1 e.2) m v shared only i ci e
+        let l = lucky c (shows.cases.advancers i c _ e.0 e.1 e.2) m v shared only i ci e in
+        (l.0, omega (arith, l.1), l.2)
 
     promises : Promises line coin es h ws
     promises = record {
@@ -256,4 +272,4 @@ module _ (line : Line) where
     }
 
 pub kept : (line : Line) (capacity : ℕ) (coin : Coin) → PromisesKept line capacity coin
-kept line capacity coin es h ws run = let a = along line capacity coin es h ws run in promises line coin es h ws a.0 a.1 a.2
+kept line capacity coin es h ws run = let a = along line capacity coin es h ws run in promises line coin es h ws a.0 a.1 a.2 (firsts line capacity coin es h ws run)

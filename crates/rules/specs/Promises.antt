@@ -58,9 +58,9 @@ pub record Completeness (line : Line) (es : List Event) : Type 0 where
   pub ended : (c : ℕ) → ((o : ℕ) → Correct line o → (v : Side) × Opened es o c v) → (i : ℕ) → Correct line i → Ended es i c line.plan.phases
 
 -- If a phase forces no correct process, or only to the side that the coin shows each of them in this phase, then each
--- that ends the next phase has decided this side.
+-- that ends the next phase has decided this side, in that phase at the latest.
 abbrev pub Luck : Line → Coin → List Event → Type 0
-Luck line coin es = (c k : ℕ) (v : Side) → 1 ≤ k → ((o : ℕ) → Correct line o → coin o c k ≡ v) → ((o : ℕ) (u : Side) → Correct line o → Forced es o c k u → u ≡ v) → (i : ℕ) → Correct line i → Ended es i c (k + 1) → (l : ℕ) × Decided es i c v l
+Luck line coin es = (c k : ℕ) (v : Side) → 1 ≤ k → ((o : ℕ) → Correct line o → coin o c k ≡ v) → ((o : ℕ) (u : Side) → Correct line o → Forced es o c k u → u ≡ v) → (i : ℕ) → Correct line i → Ended es i c (k + 1) → (l : ℕ) × (l ≤ k + 1) × Decided es i c v l
 
 -- What memory has as accepted and as decided by a correct process, and the round that it has it in, are what the run tells of it.
 pub record Recorded (line : Line) (es : List Event) (h : Held) : Type 0 where

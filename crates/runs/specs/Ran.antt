@@ -35,9 +35,9 @@ pub record Values {I : Type 0} (packed : I → ℕ) (unpacked : ℕ → Option I
   pub announced : AtRest line h ws → (i j k b : ℕ) → Correct line i → Correct line j → Announced es i k b → (body_at line.plan h j (Item i k) ≡ Some b) × ((value : I) × IsOf packed unpacked b value)
 
 -- A phase of a case that forces no correct process but to the side that a shared coin shows decides this side for each
--- correct process that ends the next phase.
+-- correct process that ends the next phase, in that phase at the latest.
 abbrev pub SharedLuck : Line → (ℕ → ℕ → Side) → List Event → Type 0
-SharedLuck line side es = (c k : ℕ) → 1 ≤ k → ((o : ℕ) (u : Side) → Correct line o → Forced es o c k u → u ≡ side c k) → (i : ℕ) → Correct line i → Ended es i c (k + 1) → (l : ℕ) × Decided es i c (side c k) l
+SharedLuck line side es = (c k : ℕ) → 1 ≤ k → ((o : ℕ) (u : Side) → Correct line o → Forced es o c k u → u ≡ side c k) → (i : ℕ) → Correct line i → Ended es i c (k + 1) → (l : ℕ) × (l ≤ k + 1) × Decided es i c (side c k) l
 
 module _ {C I : Type 0} (waiting : C → List Message) (posting : C → Message → C → Type 0) (taking : C → ℕ → ℕ → Message → C → Type 0) (ok : I → Type 0) (packed : I → ℕ) (unpacked : ℕ → Option I) where
   -- Events occur one after another, from memory `start` and carrier `from` on. Nothing stands between them.
