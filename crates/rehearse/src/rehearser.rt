@@ -57,5 +57,5 @@ pub fn rehearse(heap: Global, input: &[u8]) -> Result<Text, AllocError>
         memory,
         basket: Basket::new(&mut places),
     };
-    answer(heap, input, &mut Rehearser { desk })
+    answer(heap, input, Rehearser { desk })
 }

@@ -58,5 +58,5 @@ impl Responder for Linter {
 pub fn lint(heap: Global, input: &[u8]) -> Result<Text, AllocError>
     ensures { IfOk result (λ t. shown t ≡ linted input.now) }
 {
-    answer(heap, input, &mut Linter)
+    answer(heap, input, Linter)
 }

@@ -54,17 +54,17 @@ fn answer_lines<R: Responder>(
     Ok(text)
 }
 
-/// Answers a whole script line by line, or tells that it is too long.
-pub fn answer<R: Responder>(
+/// Answers a whole script line by line, or tells that it is too long. The responder is used up by it.
+pub fn answer<R: Responder + Drop>(
     heap: Global,
     input: &[u8],
-    responder: &mut R,
+    mut responder: R,
 ) -> Result<Text, AllocError>
-    ensures { IfOk result (λ t. shown t ≡ script_answered (R.answers responder.old) input.now) }
+    ensures { IfOk result (λ t. shown t ≡ script_answered (R.answers responder) input.now) }
 {
     let text = Text::new(heap);
     match check_size(input) {
-        Ok(()) => answer_lines(text, input, responder),
+        Ok(()) => answer_lines(text, input, &mut responder),
         Err(fault) => fault.write_to(text)?.put(b"\n"),
     }
 }
