@@ -1,5 +1,5 @@
 ghost use Rattle.std.specs.Prelude.{◌≡◌};
-ghost use Rattle.script.specs.Lint.{fault_text, form_fault_text, placed, refusal_text};
+ghost use Rattle.script.specs.Lint.{fault_text, form_fault_text, placed, refusal_of, refusal_text};
 ghost use Rattle.script.specs.declared.fault.ScriptFault.TheVariants as fault;
 ghost use Rattle.text.specs.Shown.{Adds};
 
@@ -29,6 +29,17 @@ impl From<Refusal> for ScriptFault {
 
     fn from(why: Refusal) -> ScriptFault {
         ScriptFault::Refused(why)
+    }
+}
+
+impl From<ScriptFault> for Refusal {
+    ghost from_gives = { λ e r. r ≡ refusal_of e };
+
+    fn from(fault: ScriptFault) -> Refusal {
+        match fault {
+            ScriptFault::Form(_) => Refusal::NotRead,
+            ScriptFault::Refused(refusal) => refusal,
+        }
     }
 }
 
