@@ -76,10 +76,10 @@ abbrev pub Responds : {A : Type 0} → (A → List ℕ) → (before after : ℕ 
 Responds text before after n line r = (ls : List (List ℕ)) → told text r ++ (10 ∷ after (n + 1) ls) ≡ before n (line ∷ ls)
 
 -- A linter's answers: each line gets its form written back, or its fault.
-abbrev pub answers : ℕ → List (List ℕ) → List ℕ
-answers n [] = []
-answers n (l ∷ ls) = told written (checked n l) ++ (10 ∷ answers (n + 1) ls)
+abbrev pub written_back : ℕ → List (List ℕ) → List ℕ
+written_back n [] = []
+written_back n (l ∷ ls) = told written (checked n l) ++ (10 ∷ written_back (n + 1) ls)
 
 -- what a linter answers to a whole script
 abbrev pub linted : List ℕ → List ℕ
-linted s = script_answered answers s
+linted s = script_answered written_back s
