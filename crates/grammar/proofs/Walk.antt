@@ -11,7 +11,7 @@ use Rattle.grammar.specs.declared.fault.FormFault.{FormFault}
 use Rattle.grammar.specs.declared.fault.FormFault.TheVariants.{Token, Unexpected}
 use Rattle.form.specs.declared.forms.Form.{Form}
 use Rattle.grammar.specs.Grammar.{Shape, done, next, run}
-use Rattle.grammar.specs.Reads.{Rest, rest_at, rest_of, halt, ahead, comes_to, stopped, Pulled, Ends}
+use Rattle.grammar.specs.Reads.{Stop, short_of_form, halt, ahead, comes_to, stopped, Pulled, Ends}
 
 -- a test on the first token, once it is known
 abbrev choice : Bool → Place → List ℕ → Result (Option (List ℕ)) TokenFault
@@ -63,32 +63,32 @@ unfolding run
 pull_some at ps q fits then e = ap (run (next fits then) at) (got_some at ps q e).0 ∙ (ap (λ b. cond (b && fits q) (run (then q) (onward at (length q)) (behind ps)) (Err (cond b (Unexpected at) (Token (record { place = at }))))) (got_some at ps q e).1)
 
 -- what each of these leaves: a token that is there and lawful is taken, and else nothing is
-halt_fault : (at : Place) (ps : List (List ℕ)) (e : TokenFault) (fits : List ℕ → Bool) (then : List ℕ → Shape) → Err e ≡ scanned at ps → halt (next fits then) at ps ≡ rest_at at ps
+halt_fault : (at : Place) (ps : List (List ℕ)) (e : TokenFault) (fits : List ℕ → Bool) (then : List ℕ → Shape) → Err e ≡ scanned at ps → halt (next fits then) at ps ≡ short_of_form at ps
 unfolding halt
 halt_fault at [] e fits then h = refl
 halt_fault at (p ∷ ps) e fits then h = go (lawful p) refl
   where
-    then_halt : Rest
-    then_halt = cond (fits p) (halt (then p) (onward at (length p)) ps) (rest_at (onward at (length p)) ps)
+    then_halt : Stop
+    then_halt = cond (fits p) (halt (then p) (onward at (length p)) ps) (short_of_form (onward at (length p)) ps)
 
-    go : (b : Bool) → lawful p ≡ b → cond (lawful p) then_halt (rest_at at (p ∷ ps)) ≡ rest_at at (p ∷ ps)
+    go : (b : Bool) → lawful p ≡ b → cond (lawful p) then_halt (short_of_form at (p ∷ ps)) ≡ short_of_form at (p ∷ ps)
     go true l = let told = h ∙ ap (λ b. choice b at p) l in cc
-    go false l = ap (λ b. cond b then_halt (rest_at at (p ∷ ps))) l
+    go false l = ap (λ b. cond b then_halt (short_of_form at (p ∷ ps))) l
 
-halt_none : (at : Place) (ps : List (List ℕ)) (fits : List ℕ → Bool) (then : List ℕ → Shape) → Ok None ≡ scanned at ps → halt (next fits then) at ps ≡ rest_at at ps
+halt_none : (at : Place) (ps : List (List ℕ)) (fits : List ℕ → Bool) (then : List ℕ → Shape) → Ok None ≡ scanned at ps → halt (next fits then) at ps ≡ short_of_form at ps
 unfolding halt
-halt_none at ps fits then e = let none = got_none at ps e in ap (halt (next fits then) at) none ∙ ap (rest_at at) (sym none)
+halt_none at ps fits then e = let none = got_none at ps e in ap (halt (next fits then) at) none ∙ ap (short_of_form at) (sym none)
 
-halt_some : (at : Place) (ps : List (List ℕ)) (q : List ℕ) (fits : List ℕ → Bool) (then : List ℕ → Shape) → Ok (Some q) ≡ scanned at ps → halt (next fits then) at ps ≡ cond (fits q) (halt (then q) (onward at (length q)) (behind ps)) (rest_at (onward at (length q)) (behind ps))
+halt_some : (at : Place) (ps : List (List ℕ)) (q : List ℕ) (fits : List ℕ → Bool) (then : List ℕ → Shape) → Ok (Some q) ≡ scanned at ps → halt (next fits then) at ps ≡ cond (fits q) (halt (then q) (onward at (length q)) (behind ps)) (short_of_form (onward at (length q)) (behind ps))
 unfolding halt
 halt_some at ps q fits then e =
     ap (halt (next fits then) at) (got_some at ps q e).0
-    ∙ ap (λ b. cond b (cond (fits q) (halt (then q) (onward at (length q)) (behind ps)) (rest_at (onward at (length q)) (behind ps))) (rest_at at (q ∷ behind ps))) (got_some at ps q e).1
+    ∙ ap (λ b. cond b (cond (fits q) (halt (then q) (onward at (length q)) (behind ps)) (short_of_form (onward at (length q)) (behind ps))) (short_of_form at (q ∷ behind ps))) (got_some at ps q e).1
 
 -- The same of a cursor, which stood at c and now stands at d; o is what its next token was.
 -- it took nothing
-stays : (c d : Cursor) → here d ≡ onward (here c) 0 → left d ≡ left c → rest_of c ≡ rest_of d
-stays c d place tokens = let same : onward (here c) 0 ≡ here c = ap (λ n. record { line = (here c).line; byte = n }) (add-zero (here c).byte) in λ i. rest_at (sym (place ∙ same) i) (sym tokens i)
+stays : (c d : Cursor) → here d ≡ onward (here c) 0 → left d ≡ left c → short_of_form (here c) (left c) ≡ short_of_form (here d) (left d)
+stays c d place tokens = let same : onward (here c) 0 ≡ here c = ap (λ n. record { line = (here c).line; byte = n }) (add-zero (here c).byte) in λ i. short_of_form (sym (place ∙ same) i) (sym tokens i)
 
 abbrev FaultsAt : Cursor → Cursor → FormFault → Type 0
 FaultsAt c d e = (fits : List ℕ → Bool) (then : List ℕ → Shape) → ahead c (next fits then) ≡ stopped d e
@@ -104,7 +104,7 @@ missed c d None at e value place tokens is h =
 missed c d (Some u) at e value place tokens is h = cc
 
 -- a choice of two outcomes, made in each part
-by_parts : (b : Bool) (r s : Result Form FormFault) (x y : Rest) → comes_to (cond b r s) (cond b x y) ≡ cond b (comes_to r x) (comes_to s y)
+by_parts : (b : Bool) (r s : Result Form FormFault) (x y : Stop) → comes_to (cond b r s) (cond b x y) ≡ cond b (comes_to r x) (comes_to s y)
 by_parts true r s x y = refl
 by_parts false r s x y = refl
 
@@ -113,8 +113,8 @@ unfolding ahead
 took c d u fits then value place tokens =
     let q = spelling u in
     (λ i. comes_to (pull_some (here c) (left c) q fits then value i) (halt_some (here c) (left c) q fits then value i))
-    ∙ ((λ i. comes_to (cond (fits q) (run (then q) (sym place i) (sym tokens i)) (Err (Unexpected (here c)))) (cond (fits q) (halt (then q) (sym place i) (sym tokens i)) (rest_at (sym place i) (sym tokens i))))
-    ∙ by_parts (fits q) (run (then q) (here d) (left d)) (Err (Unexpected (here c))) (halt (then q) (here d) (left d)) (rest_of d))
+    ∙ ((λ i. comes_to (cond (fits q) (run (then q) (sym place i) (sym tokens i)) (Err (Unexpected (here c)))) (cond (fits q) (halt (then q) (sym place i) (sym tokens i)) (short_of_form (sym place i) (sym tokens i))))
+    ∙ by_parts (fits q) (run (then q) (here d) (left d)) (Err (Unexpected (here c))) (halt (then q) (here d) (left d)) (short_of_form (here d) (left d)))
 
 pub pulled : (c d : Cursor) (o : Option Lexeme) (at : Place) (t : Lexeme) → spelled (Ok o) ≡ scanned (here c) (left c) → Apt (Ok o) → here d ≡ onward (here c) (taken (Ok o)) → left d ≡ remaining (Ok o) (left c) → at ≡ here c → ok_or o (Unexpected at) ≡ Ok t → Pulled c d (Ok (record { token = t; place = at }))
 pulled c d None at t value kind place tokens is h = cc

@@ -1,5 +1,5 @@
 -- What the reader's functions do to a cursor, whatever the line goes on with.
-use Rattle.std.specs.Prelude.{◌≡◌, ℕ, Bool, cond, List, [], ◌∷◌, length, Ok, Err, Result}
+use Rattle.std.specs.Prelude.{◌≡◌, ℕ, Bool, cond, List, [], ◌∷◌, length, Some, None, Ok, Err, Option, Result}
 use Rattle.token.specs.declared.cursor.Cursor.{Cursor}
 use Rattle.token.specs.declared.fault.Place.{Place}
 use Rattle.token.specs.Scan.{left, here, onward}
@@ -10,31 +10,29 @@ use Rattle.grammar.specs.declared.parts.Found.{Found}
 use Rattle.form.specs.declared.forms.Form.{Form}
 use Rattle.grammar.specs.Grammar.{Shape, done, next, run}
 
--- what is left of a line: the place where it begins, and its tokens
-pub record Rest : Type 0 where
+-- where the machine stops: the form that it has come to, if it has, and the place and the tokens of what is left
+pub record Stop : Type 0 where
+  pub form : Option Form
   pub place : Place
   pub tokens : List (List ℕ)
 
-abbrev pub rest_at : Place → List (List ℕ) → Rest
-rest_at at ps = record { place = at; tokens = ps }
+abbrev pub short_of_form : Place → List (List ℕ) → Stop
+short_of_form at ps = record { form = None; place = at; tokens = ps }
 
-abbrev pub rest_of : Cursor → Rest
-rest_of c = rest_at (here c) (left c)
-
--- What is left where the machine stops: a token that is not lawful is left, and any other that does not fit is taken.
-unfoldable pub halt : Shape → Place → List (List ℕ) → Rest
-halt (done f) at ps = rest_at at ps
-halt (next fits then) at [] = rest_at at []
+-- A token that is not lawful is left, and any other that does not fit is taken.
+unfoldable pub halt : Shape → Place → List (List ℕ) → Stop
+halt (done f) at ps = record { form = Some f; place = at; tokens = ps }
+halt (next fits then) at [] = short_of_form at []
 halt (next fits then) at (p ∷ ps) =
-    cond (lawful p) (cond (fits p) (halt (then p) (onward at (length p)) ps) (rest_at (onward at (length p)) ps)) (rest_at at (p ∷ ps))
+    cond (lawful p) (cond (fits p) (halt (then p) (onward at (length p)) ps) (short_of_form (onward at (length p)) ps)) (short_of_form at (p ∷ ps))
 
--- what reading a line comes to: its answer, and what is then left
+-- what reading a line comes to: its answer, and where the machine then stops
 pub record Sequel : Type 0 where
   pub answer : Result Form FormFault
-  pub rest : Rest
+  pub stop : Stop
 
-abbrev pub comes_to : Result Form FormFault → Rest → Sequel
-comes_to r x = record { answer = r; rest = x }
+abbrev pub comes_to : Result Form FormFault → Stop → Sequel
+comes_to r x = record { answer = r; stop = x }
 
 -- what a line comes to from a cursor on
 unfoldable pub ahead : Cursor → Shape → Sequel
@@ -42,14 +40,15 @@ ahead c s = comes_to (run s (here c) (left c)) (halt s (here c) (left c))
 
 -- a line that comes to a fault, where a cursor then stands
 abbrev pub stopped : Cursor → FormFault → Sequel
-stopped d e = comes_to (Err e) (rest_of d)
+stopped d e = comes_to (Err e) (short_of_form (here d) (left d))
 
 -- what a line comes to behind an answer: the answer's value is used from the new place on, and its fault is the line's
 abbrev pub ahead_after : {X : Type 0} → Cursor → Result X FormFault → (X → Shape) → Sequel
 ahead_after d (Ok x) k = ahead d (k x)
 ahead_after d (Err e) k = stopped d e
 
--- From cursor c to d the part G of a form was read, with the answer r. This fixes r and where d stands, behind a fault too.
+-- From cursor c to d the part G of a form was read, with the answer r. This fixes r, and where d stands, behind a fault too:
+-- k can be any, and what becomes of a value that it is told shows in the form that it comes to.
 abbrev pub Reads : {X : Type 0} → Cursor → Cursor → Result X FormFault → ((X → Shape) → Shape) → Type 0
 Reads {X} c d r G = (k : X → Shape) → ahead c (G k) ≡ ahead_after d r k
 
