@@ -1,5 +1,5 @@
 // What a form that was acted on is answered, and how that is written.
-ghost use Rattle.text.specs.Shown.{Adds};
+ghost use Rattle.text.specs.Shown.{Appends};
 
 use runs::Answer;
 use std::alloc::AllocError;
@@ -16,7 +16,7 @@ impl Said {
 
     // Adds the answer's text to a text.
     pub fn write_to(self, text: Text) -> Result<Text, AllocError>
-        ensures { Adds result text (said_text self) }
+        ensures { Appends result text (said_text self) }
     {
         match self {
             Said::Opened => text.put(b"(opened)"),
@@ -25,7 +25,7 @@ impl Said {
     }
 
     fn put_answer(text: Text, answer: Answer) -> Result<Text, AllocError>
-        ensures { Adds result text (answer_text answer) }
+        ensures { Appends result text (answer_text answer) }
     {
         match answer {
             Answer::Announced(announced) => text

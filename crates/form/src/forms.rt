@@ -1,5 +1,5 @@
 ghost use Rattle.form.specs.Format.{marked, stepped, subjected, lined, forged, written};
-ghost use Rattle.text.specs.Shown.{Adds};
+ghost use Rattle.text.specs.Shown.{Appends};
 
 use crate::marks::Marks;
 use protocol::{Step, Subject};
@@ -36,7 +36,7 @@ pub struct ForgeForm {
 }
 
 fn put_step(text: Text, step: Step) -> Result<Text, AllocError>
-    ensures { Adds result text (stepped step) }
+    ensures { Appends result text (stepped step) }
 {
     match step {
         Step::Initial => text.put(b"initial"),
@@ -46,7 +46,7 @@ fn put_step(text: Text, step: Step) -> Result<Text, AllocError>
 }
 
 fn put_subject(text: Text, subject: Subject) -> Result<Text, AllocError>
-    ensures { Adds result text (subjected subject) }
+    ensures { Appends result text (subjected subject) }
 {
     match subject {
         Subject::Item { originator, serial } => text
@@ -66,7 +66,7 @@ fn put_subject(text: Text, subject: Subject) -> Result<Text, AllocError>
 }
 
 fn put_marks(mut text: Text, marks: &Marks) -> Result<Text, AllocError>
-    ensures { Adds result text (marked marks.now) }
+    ensures { Appends result text (marked marks.now) }
 {
     for mark in marks.as_slice() {
         text = text.put_field(b" ", *mark)?;
@@ -76,7 +76,7 @@ fn put_marks(mut text: Text, marks: &Marks) -> Result<Text, AllocError>
 
 impl LineForm {
     fn write_to(&self, text: Text) -> Result<Text, AllocError>
-        ensures { Adds result text (lined self.now) }
+        ensures { Appends result text (lined self.now) }
     {
         let text = text
             .put_field(b"(line (counters ", self.counters)?
@@ -88,7 +88,7 @@ impl LineForm {
 
 impl ForgeForm {
     fn write_to(&self, text: Text) -> Result<Text, AllocError>
-        ensures { Adds result text (forged self.now) }
+        ensures { Appends result text (forged self.now) }
     {
         let text = text
             .put_field(b"(forge (from ", self.from)?
@@ -104,7 +104,7 @@ impl ForgeForm {
 impl Form {
     /// Adds the form's text to a text.
     pub fn write_to(&self, text: Text) -> Result<Text, AllocError>
-        ensures { Adds result text (written self.now) }
+        ensures { Appends result text (written self.now) }
     {
         match self {
             Form::Line(line) => line.write_to(text),

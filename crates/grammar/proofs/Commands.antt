@@ -8,7 +8,7 @@ use Rattle.form.specs.declared.forms.Form.TheVariants.{Line, Announce, Open as O
 use Rattle.form.specs.Format.{Fits64, FormFits, stepped}
 use Rattle.grammar.specs.Grammar.{Shape, done, word, field, commands, command, line, announce, opening, forge, deliver, advance, form, all_marks}
 use Rattle.grammar.proofs.Machine.{good, Yields, Live}
-use Rattle.grammar.proofs.PartLaws.{Part, Branch, Offered, fielded, field_part, behind, ahead, both, both_free, branch, choice}
+use Rattle.grammar.proofs.PartLaws.{Part, Branch, Offered, fielded, field_part, after_word, before_word, both, both_free, branch, choice}
 use Rattle.grammar.proofs.Values.{step_part, subject_part, subject_tokens, mark_tokens, strange_part}
 
 -- the word of a form, and the tokens behind it
@@ -65,11 +65,11 @@ unfolding all_marks
 line_part =
     both (λ (n : ℕ) (x : ℕ × List ℕ). lines (n, x)) (field_part (codes "counters") refl)
     (both (λ (t : ℕ) (ms : List ℕ). (t, ms)) (field_part (codes "tolerate") refl)
-    (behind (behind (behind (ahead strange_part (codes ")") refl) (codes "strange") refl) (codes "(") refl) (codes " ") refl))
+    (after_word (after_word (after_word (before_word strange_part (codes ")") refl) (codes "strange") refl) (codes "(") refl) (codes " ") refl))
 
 -- a form of two numbers
 pair_part : (a b : List ℕ) → good a ≡ true → good b ≡ true → (make : ℕ → ℕ → Form) → Part (λ k. field a (λ m. field b (λ n. word (codes ")") (λ _. k (make m n))))) (λ (x : ℕ × ℕ). make x.0 x.1) (λ x. Fits64 x.0 × Fits64 x.1) (λ x rest. fielded a x.0 (fielded b x.1 (codes ")" ∷ rest)))
-pair_part a b g h make = both make (field_part a g) (ahead (field_part b h) (codes ")") refl)
+pair_part a b g h make = both make (field_part a g) (before_word (field_part b h) (codes ")") refl)
 
 announce_part : Makes announce announces
 announce_part = pair_part (codes "counter") (codes "tag") refl refl Announce
@@ -77,15 +77,15 @@ announce_part = pair_part (codes "counter") (codes "tag") refl refl Announce
 opening_part : Makes opening openings
 opening_part =
     both (λ (c : ℕ) (x : ℕ × ℕ). Opening c x.0 x.1) (field_part (codes "counter") refl)
-    (both (λ (n v : ℕ). (n, v)) (field_part (codes "case") refl) (ahead (field_part (codes "vote") refl) (codes ")") refl))
+    (both (λ (n v : ℕ). (n, v)) (field_part (codes "case") refl) (before_word (field_part (codes "vote") refl) (codes ")") refl))
 
 forge_part : Makes forge forges
 forge_part =
     both (λ (f : ℕ) (x : ℕ × (Step × (Subject × ℕ))). forges (f, x)) (field_part (codes "from") refl)
     (both (λ (c : ℕ) (x : Step × (Subject × ℕ)). (c, x)) (field_part (codes "to") refl)
-    (behind (behind
+    (after_word (after_word
     (both_free (λ (st : Step) (x : Subject × ℕ). (st, x)) step_part
-    (both (λ (su : Subject) (b : ℕ). (su, b)) (ahead subject_part (codes ")") refl) (ahead (field_part (codes "body") refl) (codes ")") refl)))
+    (both (λ (su : Subject) (b : ℕ). (su, b)) (before_word subject_part (codes ")") refl) (before_word (field_part (codes "body") refl) (codes ")") refl)))
     (codes "(") refl) (codes " ") refl))
 
 deliver_part : Makes deliver delivers
@@ -138,7 +138,7 @@ abbrev pub tokens : Form → List (List ℕ)
 tokens f = codes "(" ∷ named f ∷ detailed f []
 
 form_part : Part (λ k. word (codes "(") (λ _. command k)) (λ f. f) FormFits (λ f rest. codes "(" ∷ named f ∷ detailed f rest)
-form_part = behind command_part (codes "(") refl
+form_part = after_word command_part (codes "(") refl
 
 -- a form is read from just its tokens
 pub form_read : (ps : List (List ℕ)) (f : Form) → Yields form ps f → FormFits f × (ps ≡ tokens f)

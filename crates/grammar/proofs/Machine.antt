@@ -9,7 +9,7 @@ use Rattle.token.specs.Scan.{onward}
 use Rattle.token.specs.Tokens.{front, behind, lawful}
 use Rattle.grammar.specs.declared.fault.FormFault.{FormFault}
 use Rattle.form.specs.declared.forms.Form.{Form}
-use Rattle.grammar.specs.Exact.{first, fault_at}
+use Rattle.grammar.specs.Exact.{first_token, fault_at}
 use Rattle.grammar.specs.Grammar.{Shape, done, next, misplaced, run}
 
 -- A token that begins with a digit has digits only. The tokens of a text are so.
@@ -46,14 +46,14 @@ pub record Stops (s : Shape) (at : Place) (ps : List (List ℕ)) (e : FormFault)
   pub begun : Form
   pub rest : List (List ℕ)
   pub begins : Yields s (before ++ rest) begun
-  pub nowhere : (f : Form) (more : List (List ℕ)) → Yields s (before ++ more) f → first more ≡ first after → ⊥
+  pub nowhere : (f : Form) (more : List (List ℕ)) → Yields s (before ++ more) f → first_token more ≡ first_token after → ⊥
 
 abbrev Outcome : Shape → Place → List (List ℕ) → Result Form FormFault → Type 0
 Outcome s at ps (Ok f) = Yields s ps f
 Outcome s at ps (Err e) = Stops s at ps e
 
 -- the first token is at fault, or the end
-at_once : (s : Shape) (at : Place) (ps : List (List ℕ)) → Live s → ((f : Form) (more : List (List ℕ)) → Yields s more f → first more ≡ first ps → ⊥) → Stops s at ps (fault_at at ps)
+at_once : (s : Shape) (at : Place) (ps : List (List ℕ)) → Live s → ((f : Form) (more : List (List ℕ)) → Yields s more f → first_token more ≡ first_token ps → ⊥) → Stops s at ps (fault_at at ps)
 at_once s at ps l none =
     let c = completed s l in
     record {
@@ -95,15 +95,15 @@ module _ (fits : List ℕ → Bool) (then : List ℕ → Shape) (p : List ℕ) (
 
   refused : (at : Place) → Live (next fits then) → (lawful p && fits p) ≡ false → Stops (next fits then) at (p ∷ ps) (misplaced at p)
   refused at l unfit = at_once (next fits then) at (p ∷ ps) l (λ f more y same.
-      let is : y.0 ≡ p = cc (ap first y.2) in
+      let is : y.0 ≡ p = cc (ap first_token y.2) in
       both_ways (lawful p && fits p) unfit (and_from (lawful p) (fits p) (ap lawful (sym is) ∙ (and_parts (lawful y.0) (plain y.0) y.3).0) (ap fits (sym is) ∙ y.4)))
 
 -- a run ends in the form that its tokens yield, or stops in a fault
 outcome : (s : Shape) (at : Place) (ps : List (List ℕ)) → Live s → AllByRecursion (λ p. plain p ≡ true) ps → Outcome s at ps (run s at ps)
 unfolding run
 outcome (done f) at [] l h = (refl, refl)
-outcome (done f) at (p ∷ ps) l h = at_once (done f) at (p ∷ ps) l (λ g more y same. apart p (first more) (ap first y.0) same)
-outcome (next fits then) at [] l h = at_once (next fits then) at [] l (λ g more y same. apart y.0 (first more) same (ap first y.2))
+outcome (done f) at (p ∷ ps) l h = at_once (done f) at (p ∷ ps) l (λ g more y same. apart p (first_token more) (ap first_token y.0) same)
+outcome (next fits then) at [] l h = at_once (next fits then) at [] l (λ g more y same. apart y.0 (first_token more) same (ap first_token y.2))
 outcome (next fits then) at (p ∷ ps) l h =
     go (lawful p && fits p) refl (λ q. outcome (then p) (onward at (length p)) ps q h.1)
   where

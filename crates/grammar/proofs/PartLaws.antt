@@ -28,8 +28,8 @@ number_part = record {
 
 module _ {A B : Type 0} {part : (B → Shape) → Shape} {name : A → B} {Fit : A → Type 0} {spell : A → List (List ℕ) → List (List ℕ)} (p : Part part name Fit spell) (w : List ℕ) (g : good w ≡ true) where
   -- a word, and then the part
-  pub behind : Part (λ k. word w (λ _. part k)) name Fit (λ a rest. w ∷ spell a rest)
-  behind = record {
+  pub after_word : Part (λ k. word w (λ _. part k)) name Fit (λ a rest. w ∷ spell a rest)
+  after_word = record {
     read = λ k ps f y.
         let o = p.read k y.1 f y.5 in
         (o.0, o.1, o.2, y.2 ∙ (ap (λ q. q ∷ y.1) ((bytes_eq-Decides y.0 w).0 y.4) ∙ ap (λ qs. w ∷ qs) o.3), o.4);
@@ -38,8 +38,8 @@ module _ {A B : Type 0} {part : (B → Shape) → Shape} {name : A → B} {Fit :
   }
 
   -- the part, and then a word
-  pub ahead : Part (λ k. part (λ b. word w (λ _. k b))) name Fit (λ a rest. spell a (w ∷ rest))
-  ahead = record {
+  pub before_word : Part (λ k. part (λ b. word w (λ _. k b))) name Fit (λ a rest. spell a (w ∷ rest))
+  before_word = record {
     read = λ k ps f y.
         let o = p.read (λ b. word w (λ _. k b)) ps f y in
         let z = o.4 in
@@ -69,13 +69,13 @@ module _ {A B C D E : Type 0} {p : (B → Shape) → Shape} {q : (D → Shape) �
   }
 
 pub arg_part : Part arg (λ n. n) Fits64 (λ n rest. codes " " ∷ decimal n ∷ rest)
-arg_part = behind number_part (codes " ") refl
+arg_part = after_word number_part (codes " ") refl
 
 abbrev pub fielded : List ℕ → ℕ → List (List ℕ) → List (List ℕ)
 fielded name n rest = codes " " ∷ codes "(" ∷ name ∷ codes " " ∷ decimal n ∷ codes ")" ∷ rest
 
 pub field_part : (name : List ℕ) → good name ≡ true → Part (field name) (λ n. n) Fits64 (fielded name)
-field_part name g = behind (behind (behind (ahead arg_part (codes ")") refl) name g) (codes "(") refl) (codes " ") refl
+field_part name g = after_word (after_word (after_word (before_word arg_part (codes ")") refl) name g) (codes "(") refl) (codes " ") refl
 
 -- what holds of each of some words holds of a token that is one of them
 known_each : (P : List ℕ → Type 0) (ws : List (List ℕ)) (p : List ℕ) → AllByRecursion P ws → known ws p ≡ true → P p

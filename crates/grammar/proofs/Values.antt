@@ -11,7 +11,7 @@ use Rattle.form.specs.declared.forms.Form.{Form}
 use Rattle.form.specs.Format.{Fits64, SubjectFits, MarksFit, stepped}
 use Rattle.grammar.specs.Grammar.{Shape, number, marks, step, item, ballot, subject}
 use Rattle.grammar.proofs.Machine.{Yields, Live}
-use Rattle.grammar.proofs.PartLaws.{Part, Branch, Offered, number_part, arg_part, behind, ahead, both, branch, choice}
+use Rattle.grammar.proofs.PartLaws.{Part, Branch, Offered, number_part, arg_part, after_word, before_word, both, branch, choice}
 
 abbrev steps : List (List ℕ)
 steps = codes "initial" ∷ codes "echo" ∷ codes "ready" ∷ []
@@ -53,14 +53,14 @@ abbrev pub subject_tokens : Subject → List (List ℕ) → List (List ℕ)
 subject_tokens su rest = codes " " ∷ codes "(" ∷ itemed su ∷ detailed su rest
 
 item_part : Part item (λ (x : ℕ × ℕ). Item x.0 x.1) (λ x. Fits64 x.0 × Fits64 x.1) (λ x rest. detailed (Item x.0 x.1) rest)
-item_part = both Item arg_part (ahead arg_part (codes ")") refl)
+item_part = both Item arg_part (before_word arg_part (codes ")") refl)
 
 ballot_part : Part ballot (λ (x : ℕ × (ℕ × ℕ)). Ballot x.0 x.1.0 x.1.1) (λ x. Fits64 x.0 × (Fits64 x.1.0 × Fits64 x.1.1)) (λ x rest. detailed (Ballot x.0 x.1.0 x.1.1) rest)
-ballot_part = both (λ (o : ℕ) (x : ℕ × ℕ). Ballot o x.0 x.1) arg_part (both (λ (c r : ℕ). (c, r)) arg_part (ahead arg_part (codes ")") refl))
+ballot_part = both (λ (o : ℕ) (x : ℕ × ℕ). Ballot o x.0 x.1) arg_part (both (λ (c r : ℕ). (c, r)) arg_part (before_word arg_part (codes ")") refl))
 
 pub subject_part : Part subject (λ su. su) SubjectFits subject_tokens
 subject_part =
-    behind (behind
+    after_word (after_word
     (choice after (λ su. su) SubjectFits itemed detailed (codes "item" ∷ codes "ballot" ∷ []) (codes "item") (refl, refl) (
       branch after (λ su. su) SubjectFits itemed detailed (codes "item") (λ (x : ℕ × ℕ). Item x.0 x.1) (λ x. refl) item_part,
       (branch after (λ su. su) SubjectFits itemed detailed (codes "ballot") (λ (x : ℕ × (ℕ × ℕ)). Ballot x.0 x.1.0 x.1.1) (λ x. refl) ballot_part, tt),

@@ -15,9 +15,9 @@ pub record Exact (s : List ℕ) (r : Result Form FormFault) : Type 0 where
   pub fits : (f : Form) → r ≡ Ok f → FormFits f
   pub only : (f : Form) → FormFits f → s ≡ written f → r ≡ Ok f
 
-abbrev pub first : List (List ℕ) → Option (List ℕ)
-first [] = None
-first (p ∷ ps) = Some p
+abbrev pub first_token : List (List ℕ) → Option (List ℕ)
+first_token [] = None
+first_token (p ∷ ps) = Some p
 
 -- the fault of the next of these tokens, or of their end
 abbrev pub fault_at : Place → List (List ℕ) → FormFault
@@ -26,7 +26,7 @@ fault_at at (p ∷ ps) = misplaced at p
 
 -- A fault of the text s, in the format's words. The tokens before it begin some written form,
 -- and no written form that begins with them goes on as s does.
-pub record Told (at : ℕ) (s : List ℕ) (e : FormFault) : Type 0 where
+pub record Leftmost (at : ℕ) (s : List ℕ) (e : FormFault) : Type 0 where
   pub before : List (List ℕ)
   pub after : List (List ℕ)
   pub cut : pieces s ≡ before ++ after
@@ -35,7 +35,7 @@ pub record Told (at : ℕ) (s : List ℕ) (e : FormFault) : Type 0 where
   pub held : FormFits begun
   pub rest : List (List ℕ)
   pub begins : pieces (written begun) ≡ before ++ rest
-  pub nowhere : (f : Form) (more : List (List ℕ)) → FormFits f → pieces (written f) ≡ before ++ more → first more ≢ first after
+  pub nowhere : (f : Form) (more : List (List ℕ)) → FormFits f → pieces (written f) ≡ before ++ more → first_token more ≢ first_token after
 
 abbrev pub Faults : ℕ → List ℕ → Result Form FormFault → Type 0
-Faults at s r = (e : FormFault) → r ≡ Err e → Told at s e
+Faults at s r = (e : FormFault) → r ≡ Err e → Leftmost at s e

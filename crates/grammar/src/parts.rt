@@ -22,10 +22,10 @@ pub fn pull<'a>(cursor: &mut Cursor<'a>) -> Result<Found<'a>, FormFault>
     Ok(Found { token, place })
 }
 
-// The end of the line behind a whole form. The form is handed in and given back, since the grammar
-// ends a line in its form, and the clause says which.
-pub fn finish(cursor: &mut Cursor<'_>, form: Form) -> Result<Form, FormFault>
-    ensures { Ends cursor.old form result }
+// The end of the line behind a whole form. It uses the cursor up. The form is handed in and given back, since the
+// grammar ends a line in its form, and the clause says which.
+pub fn finish(mut cursor: Cursor<'_>, form: Form) -> Result<Form, FormFault>
+    ensures { Ends cursor.entry form result }
 {
     let place = cursor.place();
     if cursor.next_token()?.is_some() {

@@ -1,2 +1,3 @@
 mod MarksLoop
 mod Words
+mod Whole

@@ -184,7 +184,7 @@ fn read_whole(number: u64, line: &[u8]) -> Result<Form, FormFault>
     let mut cursor = Cursor::new(number, line);
     expect(&mut cursor, b"(")?;
     let form = read_command(&mut cursor)?;
-    finish(&mut cursor, form)
+    finish(cursor, form)
 }
 
 /// Reads a line, which is line `number` of its script, as the one form whose text it is.

@@ -1,5 +1,5 @@
 ghost use Rattle.std.specs.Prelude.{◌≡◌, IfOk, refl};
-ghost use Rattle.text.specs.Shown.{shown, Adds};
+ghost use Rattle.text.specs.Shown.{shown, Appends};
 ghost use Rattle.desk.specs.Desk.{state, places};
 ghost use Rattle.desk.specs.Wording.{said_text};
 ghost use Rattle.rehearse.specs.Rehearsed.{answers, rehearsed};
@@ -34,7 +34,7 @@ impl Responder for Rehearser<'_> {
 
     // The clause of the trait: the check does not hand it on to a function without self where the type has a lifetime.
     fn write(said: Said, text: Text) -> Result<Text, AllocError>
-        ensures { Adds result text (said_text said) }
+        ensures { Appends result text (said_text said) }
     {
         said.write_to(text)
     }
@@ -57,5 +57,5 @@ pub fn rehearse(heap: Global, input: &[u8]) -> Result<Text, AllocError>
         memory,
         basket: Basket::new(&mut places),
     };
-    answer(heap, input, &mut Rehearser { desk })
+    answer(heap, input, Rehearser { desk })
 }

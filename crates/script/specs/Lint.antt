@@ -6,7 +6,7 @@ use Rattle.grammar.specs.declared.fault.FormFault.{FormFault}
 use Rattle.grammar.specs.declared.fault.FormFault.TheVariants.{Token, Unexpected}
 use Rattle.grammar.specs.Grammar.{reading}
 use Rattle.protocol.specs.declared.refusals.Refusal.{Refusal}
-use Rattle.protocol.specs.declared.refusals.Refusal.TheVariants.{MemoryTooSmall}
+use Rattle.protocol.specs.declared.refusals.Refusal.TheVariants.{MemoryTooSmall, NotRead}
 use Rattle.protocol.specs.Refusals.{refusal_number}
 use Rattle.token.specs.declared.fault.Place.{Place}
 use Rattle.script.specs.declared.fault.ScriptFault.{ScriptFault}
@@ -26,6 +26,11 @@ form_fault_text (Unexpected at) = placed (codes "form") at
 abbrev pub fault_text : ScriptFault → List ℕ
 fault_text (Unread e) = form_fault_text e
 fault_text (Refused e) = refusal_text e
+
+-- which refusal a fault is: a line that does not read is one too
+abbrev pub refusal_of : ScriptFault → Refusal
+refusal_of (Unread e) = NotRead
+refusal_of (Refused e) = e
 
 -- A script's lines. Each ends at a byte 10 or with the script, and none follows a last byte 10.
 abbrev pub on_line : ℕ → List (List ℕ) → List (List ℕ)
@@ -71,10 +76,10 @@ abbrev pub Responds : {A : Type 0} → (A → List ℕ) → (before after : ℕ 
 Responds text before after n line r = (ls : List (List ℕ)) → told text r ++ (10 ∷ after (n + 1) ls) ≡ before n (line ∷ ls)
 
 -- A linter's answers: each line gets its form written back, or its fault.
-abbrev pub answers : ℕ → List (List ℕ) → List ℕ
-answers n [] = []
-answers n (l ∷ ls) = told written (checked n l) ++ (10 ∷ answers (n + 1) ls)
+abbrev pub written_back : ℕ → List (List ℕ) → List ℕ
+written_back n [] = []
+written_back n (l ∷ ls) = told written (checked n l) ++ (10 ∷ written_back (n + 1) ls)
 
 -- what a linter answers to a whole script
 abbrev pub linted : List ℕ → List ℕ
-linted s = script_answered answers s
+linted s = script_answered written_back s

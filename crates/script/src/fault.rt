@@ -1,7 +1,7 @@
 ghost use Rattle.std.specs.Prelude.{◌≡◌};
-ghost use Rattle.script.specs.Lint.{fault_text, form_fault_text, placed, refusal_text};
+ghost use Rattle.script.specs.Lint.{fault_text, form_fault_text, placed, refusal_of, refusal_text};
 ghost use Rattle.script.specs.declared.fault.ScriptFault.TheVariants as fault;
-ghost use Rattle.text.specs.Shown.{Adds};
+ghost use Rattle.text.specs.Shown.{Appends};
 
 use grammar::FormFault;
 use protocol::Refusal;
@@ -32,8 +32,19 @@ impl From<Refusal> for ScriptFault {
     }
 }
 
+impl From<ScriptFault> for Refusal {
+    ghost from_gives = { λ e r. r ≡ refusal_of e };
+
+    fn from(fault: ScriptFault) -> Refusal {
+        match fault {
+            ScriptFault::Form(_) => Refusal::NotRead,
+            ScriptFault::Refused(refusal) => refusal,
+        }
+    }
+}
+
 fn put_place(text: Text, layer: &[u8], place: Place) -> Result<Text, AllocError>
-    ensures { Adds result text (placed layer.now place) }
+    ensures { Appends result text (placed layer.now place) }
 {
     let text = text.put(b"(fault (layer ")?.put(layer)?;
     text.put_field(b") (line ", place.line)?
@@ -42,14 +53,14 @@ fn put_place(text: Text, layer: &[u8], place: Place) -> Result<Text, AllocError>
 }
 
 fn put_refusal(text: Text, refusal: Refusal) -> Result<Text, AllocError>
-    ensures { Adds result text (refusal_text refusal) }
+    ensures { Appends result text (refusal_text refusal) }
 {
     text.put_field(b"(refused ", u64::from(refusal.number()))?
         .put(b")")
 }
 
 fn put_form_fault(text: Text, fault: FormFault) -> Result<Text, AllocError>
-    ensures { Adds result text (form_fault_text fault) }
+    ensures { Appends result text (form_fault_text fault) }
 {
     match fault {
         FormFault::Token(fault) => put_place(text, b"token", fault.place),
@@ -60,7 +71,7 @@ fn put_form_fault(text: Text, fault: FormFault) -> Result<Text, AllocError>
 impl ScriptFault {
     /// Adds the fault's text to a text.
     pub fn write_to(self, text: Text) -> Result<Text, AllocError>
-        ensures { Adds result text (fault_text self) }
+        ensures { Appends result text (fault_text self) }
     {
         match self {
             ScriptFault::Form(fault) => put_form_fault(text, fault),

@@ -1,6 +1,6 @@
 ghost use Rattle.std.specs.Prelude.{◌≡◌, IfOk, refl};
 ghost use Rattle.form.specs.Format.{written};
-ghost use Rattle.script.specs.Lint.{checked, sized, answers, linted};
+ghost use Rattle.script.specs.Lint.{checked, sized, written_back, linted};
 ghost use Rattle.text.specs.Shown.{shown};
 
 use crate::fault::ScriptFault;
@@ -41,7 +41,7 @@ impl Responder for Linter {
 
     ghost written = { written };
 
-    ghost answers = { λ _. answers };
+    ghost answers = { λ _. written_back };
 
     ghost none = { λ _ _. refl };
 
@@ -58,5 +58,5 @@ impl Responder for Linter {
 pub fn lint(heap: Global, input: &[u8]) -> Result<Text, AllocError>
     ensures { IfOk result (λ t. shown t ≡ linted input.now) }
 {
-    answer(heap, input, &mut Linter)
+    answer(heap, input, Linter)
 }

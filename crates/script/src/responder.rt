@@ -1,7 +1,7 @@
 // What a script is answered, whoever answers its lines.
 ghost use Rattle.std.specs.Prelude.{◌≡◌, ℕ, List, [], IfOk};
 ghost use Rattle.script.specs.Lint.{told, lines, script_answered, Responds};
-ghost use Rattle.text.specs.Shown.{shown, Adds};
+ghost use Rattle.text.specs.Shown.{shown, Appends};
 
 use crate::fault::ScriptFault;
 use crate::linter::check_size;
@@ -23,7 +23,7 @@ pub trait Responder {
 
     /// Adds an answer's text to a text.
     fn write(answer: Self::Answer, text: Text) -> Result<Text, AllocError>
-        ensures { Adds result text (written answer) };
+        ensures { Appends result text (written answer) };
 
     ghost none: { (x : Self) (n : ℕ) → answers x n [] ≡ [] };
 }
@@ -33,7 +33,7 @@ fn put_answer<R: Responder>(
     text: Text,
     answer: Result<R::Answer, ScriptFault>,
 ) -> Result<Text, AllocError>
-    ensures { Adds result text (told R.written answer) }
+    ensures { Appends result text (told R.written answer) }
 {
     match answer {
         Ok(answer) => R::write(answer, text),
@@ -46,7 +46,7 @@ fn answer_lines<R: Responder>(
     input: &[u8],
     responder: &mut R,
 ) -> Result<Text, AllocError>
-    ensures { Adds result text (R.answers responder.old 1 (lines input.now)) }
+    ensures { Appends result text (R.answers responder.old 1 (lines input.now)) }
 {
     for line in Lines::new(input) {
         text = put_answer::<R>(text, responder.respond(line))?.put(b"\n")?;
@@ -54,17 +54,17 @@ fn answer_lines<R: Responder>(
     Ok(text)
 }
 
-/// Answers a whole script line by line, or tells that it is too long.
-pub fn answer<R: Responder>(
+/// Answers a whole script line by line, or tells that it is too long. The responder is used up by it.
+pub fn answer<R: Responder + Drop>(
     heap: Global,
     input: &[u8],
-    responder: &mut R,
+    mut responder: R,
 ) -> Result<Text, AllocError>
-    ensures { IfOk result (λ t. shown t ≡ script_answered (R.answers responder.old) input.now) }
+    ensures { IfOk result (λ t. shown t ≡ script_answered (R.answers responder) input.now) }
 {
     let text = Text::new(heap);
     match check_size(input) {
-        Ok(()) => answer_lines(text, input, responder),
+        Ok(()) => answer_lines(text, input, &mut responder),
         Err(fault) => fault.write_to(text)?.put(b"\n"),
     }
 }

@@ -33,11 +33,11 @@ fn line_length(rest: &[u8]) -> usize
 }
 
 impl<'a> Lines<'a> {
-    ghost use Rattle.script.specs.Split.{left, next_number};
+    ghost use Rattle.script.specs.Split.{lines_left, next_number};
 
     /// All lines of a script, from number 1.
     pub fn new(input: &'a [u8]) -> Lines<'a>
-        ensures lines { left result ≡ lines input.now }
+        ensures lines { lines_left result ≡ lines input.now }
         ensures number { next_number result ≡ 1 }
     {
         Lines {

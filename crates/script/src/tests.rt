@@ -1,4 +1,8 @@
-use crate::linter::lint;
+use crate::fault::ScriptFault;
+use crate::linter::{check_line, lint};
+use crate::split::ScriptLine;
+use form::Form;
+use protocol::Refusal;
 use std::test::Fail;
 
 #[test]
@@ -34,5 +38,17 @@ fn a_script_has_a_limit(rt: HostRuntime) -> Result<(), Fail> {
     let longer = vec![in rt.alloc(); b'x'; 4097]?;
     let text = lint(rt.alloc(), longer.as_slice())?;
     assert!(rt; text.as_bytes() == b"(refused 2)\n".as_slice());
+    Ok(())
+}
+
+fn form_of(text: &[u8]) -> Result<Form, Refusal> {
+    Ok(check_line(ScriptLine { number: 1, text })?)
+}
+
+#[test]
+fn a_fault_is_a_refusal(rt: HostRuntime) -> Result<(), Fail> {
+    assert!(rt; form_of(b"(lone)") == Err(Refusal::NotRead));
+    let other = ScriptFault::Refused(Refusal::NoRoom);
+    assert!(rt; Refusal::from(other) == Refusal::NoRoom);
     Ok(())
 }

@@ -7,5 +7,5 @@ abbrev pub shown : Text → List ℕ
 shown t = vec_items t.bytes
 
 -- the answer, where memory did not run out, is the text with these bytes behind it
-abbrev pub Adds : Result Text AllocError → Text → List ℕ → Type 0
-Adds r text more = IfOk r (λ t. shown t ≡ shown text ++ more)
+abbrev pub Appends : Result Text AllocError → Text → List ℕ → Type 0
+Appends r text more = IfOk r (λ t. shown t ≡ shown text ++ more)

@@ -4,7 +4,7 @@
 #![tactic(auto)]
 
 ghost use Rattle.std.specs.Prelude.{◌≡◌, [], ◌++◌, decimal};
-ghost use Rattle.text.specs.Shown.{shown, Adds};
+ghost use Rattle.text.specs.Shown.{shown, Appends};
 
 use std::alloc::{AllocError, Global};
 
@@ -32,7 +32,7 @@ impl Text {
 
     /// Adds bytes.
     pub fn put(mut self, more: &[u8]) -> Result<Text, AllocError>
-        ensures { Adds result self more.now }
+        ensures { Appends result self more.now }
     {
         self.bytes.extend_from_slice(more)?;
         Ok(self)
@@ -40,7 +40,7 @@ impl Text {
 
     /// Adds a number in decimal.
     pub fn put_number(self, n: u64) -> Result<Text, AllocError>
-        ensures { Adds result self (decimal n) }
+        ensures { Appends result self (decimal n) }
     {
         let digits = format!(in *self.bytes.allocator(); "{n}")?;
         self.put(digits.as_bytes())
@@ -48,7 +48,7 @@ impl Text {
 
     /// Adds words and a number behind them.
     pub fn put_field(self, words: &[u8], n: u64) -> Result<Text, AllocError>
-        ensures { Adds result self (words.now ++ decimal n) }
+        ensures { Appends result self (words.now ++ decimal n) }
     {
         self.put(words)?.put_number(n)
     }

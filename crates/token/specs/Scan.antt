@@ -6,7 +6,7 @@ use Rattle.token.specs.declared.fault.TokenFault.{TokenFault}
 use Rattle.token.specs.declared.lex.Token.{Token}
 use Rattle.token.specs.Tokens.{pieces, behind, lawful, spelling, Suits}
 
--- A cursor is known by two things: the tokens before it, and the place of the next one.
+-- A cursor is known by two things: the tokens that are left, and the place of the next one.
 abbrev pub left : Cursor → List (List ℕ)
 left c = pieces c.rest.now
 

@@ -1,5 +1,5 @@
 -- How a line of a script is cut into tokens, and which tokens are lawful.
-use Rattle.std.specs.Prelude.{◌≡◌, ℕ, suc, ◌+◌, ◌-◌, ◌*◌, ◌^◌, ◌≤◌, Bool, true, false, cond, not, ◌&&◌, ◌||◌, List, [], ◌∷◌, length, drop, Some, None, Option, ◌==◌, nat_lt, slice_index}
+use Rattle.std.specs.Prelude.{◌≡◌, ℕ, suc, ◌+◌, ◌-◌, ◌*◌, ◌^◌, ◌≤◌, Bool, true, false, cond, ◌&&◌, ◌||◌, List, [], ◌∷◌, length, drop, Some, None, Option, is_some, ◌==◌, nat_lt, slice_index}
 use Rattle.std.specs.List.{fold, prefix_len}
 use Rattle.std.specs.Char.{is_ascii_lowercase, is_ascii_digit}
 use Rattle.token.specs.declared.lex.Token.{Token}
@@ -52,12 +52,12 @@ below64 n = cond (nat_lt n (2 ^ 64)) (Some n) None
 abbrev pub leading_zero : List ℕ → Bool
 leading_zero ds = nat_lt 1 (length ds) && slice_index ds 0 == 48
 
--- digits with no leading zero that write a number below 2^64
-abbrev pub numeral : List ℕ → Bool
-numeral ds = not (leading_zero ds) && nat_lt (worth ds) (2 ^ 64)
-
+-- the number of digits that have no leading zero, if it is below 2^64
 abbrev pub number_of : List ℕ → Option ℕ
 number_of ds = cond (leading_zero ds) None (below64 (worth ds))
+
+abbrev pub numeral : List ℕ → Bool
+numeral ds = is_some (number_of ds)
 
 -- a bracket, a space, a word or a number below 2^64: by the first byte
 abbrev pub lawful : List ℕ → Bool
