@@ -52,3 +52,12 @@ fn a_fault_is_a_refusal(rt: HostRuntime) -> Result<(), Fail> {
     assert!(rt; Refusal::from(other) == Refusal::NoRoom);
     Ok(())
 }
+
+#[test]
+fn each_of_the_most_lines_is_answered(rt: HostRuntime) -> Result<(), Fail> {
+    let most = vec![in rt.alloc(); b'\n'; 4096]?;
+    let text = lint(rt.alloc(), most.as_slice())?;
+    // 38 bytes a line, and the digits of its number.
+    assert_eq!(rt; text.as_bytes().len(), 4096 * 38 + 15277);
+    Ok(())
+}
