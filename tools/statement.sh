@@ -1,14 +1,14 @@
 #!/bin/bash
 # docs/PROOFS.md states the promises of runs in plain words beside their formal text. This fails where the text is not the one in
-# rules/specs/Promises, so that the two cannot part.
+# rules/specs/Promises, and in protocol/specs/Faults under it, so that the two cannot part.
 set -euo pipefail
 cd "$(dirname "$0")/.."
 formal=$(awk '
     /^pub record (AtRest|Agreement|Completeness|Recorded) / { inside = 1; next }
     /^$/ { inside = 0 }
     inside && /^  pub / { print substr($0, 7) }
-    /^(Correct|Quiet|Stuck|Counted|Luck) .* = / { print }
-' crates/rules/specs/Promises.antt)
+    /^(Correct|CorrectOf|Quiet|QuietOf|Stuck|CountsRightly|Luck) .* = / { print }
+' crates/protocol/specs/Faults.antt crates/rules/specs/Promises.antt)
 failed=0
 while IFS= read -r line; do
     if ! grep -qF "\`$line\`" docs/PROOFS.md; then

@@ -6,7 +6,6 @@ use mathlib.Core.HLevel.{is_prop→PathP}
 use Rattle.std.proofs.Math.Bridge.{le_prop}
 use Rattle.std.proofs.lemmas.Bool.{and_from, le-leb, true≢false}
 use Rattle.std.specs.Result.{result_ok}
-use Rattle.protocol.specs.declared.refusals.Refusal.TheVariants.{ValueOutOfRange}
 use Rattle.item.specs.declared.records.Record.{Record}
 use Rattle.item.specs.declared.tags.Tag.{Tag}
 use Rattle.item.specs.Records.{in_range, made_if, recorded}
@@ -50,14 +49,6 @@ recorded_of r = go (in_range r.kind r.colour r.station r.day r.shelf) refl where
   go false e = absurd (true≢false (sym (record_in_range r) ∙ e))
 
 module _ (kind colour station day shelf : ℕ) where
-  -- numbers out of range make none
-  pub recorded_not : in_range kind colour station day shelf ≡ false → recorded kind colour station day shelf ≡ Err ValueOutOfRange
-  unfolding recorded
-  recorded_not h = go (in_range kind colour station day shelf) refl where
-    go : (b : Bool) (e : in_range kind colour station day shelf ≡ b) → made_if kind colour station day shelf b e ≡ Err ValueOutOfRange
-    go true e = absurd (true≢false (sym e ∙ h))
-    go false e = refl
-
   -- the fields of a record are the numbers that it was made of
   pub record Fields (r : Record) : Type 0 where
     pub kind_is : kind ≡ r.kind
@@ -93,14 +84,6 @@ tagged_of t = go (tags.in_range t.number) refl where
   go : (b : Bool) (e : tags.in_range t.number ≡ b) → tags.made_if t.number b e ≡ Ok t
   go true e = ap Ok (same_tag _ t refl)
   go false e = absurd (true≢false (sym (and_from _ _ (le-leb 1 t.number t.first) (le-leb t.number 999999 t.last)) ∙ e))
-
--- a number out of range makes none
-pub tagged_not : (n : ℕ) → tags.in_range n ≡ false → tags.tagged n ≡ Err ValueOutOfRange
-unfolding tags.tagged
-tagged_not n h = go (tags.in_range n) refl where
-  go : (b : Bool) (e : tags.in_range n ≡ b) → tags.made_if n b e ≡ Err ValueOutOfRange
-  go true e = absurd (true≢false (sym e ∙ h))
-  go false e = refl
 
 -- the number of a tag is the one that it was made of
 pub tagged_number : (n : ℕ) (t : Tag) → tags.tagged n ≡ Ok t → n ≡ t.number

@@ -1,6 +1,7 @@
 use Rattle.std.proofs.Common.{sym, arith}
 use Rattle.std.proofs.lemmas.Bool.Decides.{nat_tests}
-use Rattle.item.specs.Made.{recorded_of, recorded_not}
+use Rattle.item.specs.Made.{recorded_of}
+use Rattle.item.proofs.Outside.{recorded_not}
 use Rattle.item.proofs.records.Record.new.Goals as goal
 
 pub returns-then-not-contains : goal.returns-then-not-contains

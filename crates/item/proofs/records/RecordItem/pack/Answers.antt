@@ -1,5 +1,5 @@
 use Rattle.std.proofs.Common.{arith}
-use Rattle.item.specs.Bodies.{shifted}
+use Rattle.item.proofs.Bits.{shifted}
 use Rattle.item.proofs.records.RecordItem.pack.Goals as goal
 
 pub returns : goal.returns

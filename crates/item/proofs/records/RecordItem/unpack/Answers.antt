@@ -1,4 +1,4 @@
-use Rattle.item.specs.Bodies.{masked}
+use Rattle.item.proofs.Bits.{masked}
 use Rattle.item.proofs.records.RecordItem.unpack.Goals as goal
 
 pub returns : goal.returns

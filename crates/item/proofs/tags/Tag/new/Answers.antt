@@ -1,6 +1,7 @@
 use Rattle.std.proofs.Common.{sym, arith}
 use Rattle.std.proofs.lemmas.Bool.Decides.{nat_tests}
-use Rattle.item.specs.Made.{tagged_of, tagged_not}
+use Rattle.item.specs.Made.{tagged_of}
+use Rattle.item.proofs.Outside.{tagged_not}
 use Rattle.item.proofs.tags.Tag.new.Goals as goal
 
 pub returns-then-not-contains : goal.returns-then-not-contains
