@@ -1,6 +1,6 @@
 -- What a process keeps of one broadcast, and what an arriving message makes of it: the rule of stage and step again, by which
 -- bodies were sent. That code and machine do the same is shown with the rules of turns.
-use Rattle.std.specs.Prelude.{ℕ, Bool, false, cond, Some, None, Option, ◌==◌, nat_le}
+use Rattle.std.specs.Prelude.{ℕ, Bool, cond, Some, None, Option, ◌==◌, nat_le}
 use Rattle.protocol.specs.Heard.{has}
 use Rattle.protocol.specs.declared.messages.Step.{Step}
 use Rattle.protocol.specs.declared.messages.Step.TheVariants.{Initial, Echo, Ready}

@@ -39,7 +39,8 @@ pub fn check_correct(line: &Line, memory: &Memory, process: u64) -> Result<(), R
     Ok(())
 }
 
-// Where the memory has a process's record of a case. Refused for a case outside the plan.
+// Where the memory has a process's record of a case. Refused for a case outside the plan, and for a process outside it too, which
+// is to be asked about before.
 pub fn find_case(line: &Line, process: u64, case: u64) -> Result<usize, Refusal>
     ensures { result ≡ ok_or (case_place_of line.now.plan process case) SubjectOutOfPlan }
 {

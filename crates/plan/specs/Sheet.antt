@@ -1,5 +1,5 @@
 -- The thresholds of n processes of which t may be faulty. Assumes nothing.
-use Rattle.std.specs.Prelude.{ℕ, zero, suc, ◌+◌, ◌-◌, ◌*◌, ◌/◌, ◌<◌, ◌≤◌}
+use Rattle.std.specs.Prelude.{ℕ, zero, suc, ◌+◌, ◌*◌, ◌/◌}
 use Rattle.plan.specs.declared.plans.Thresholds.{Thresholds}
 
 abbrev pub thresholds_of : ℕ → ℕ → Thresholds
