@@ -17,12 +17,13 @@ use Rattle.runs.specs.declared.turns.Turn.TheVariants.{Announce, Open, Forge, De
 use Rattle.runs.specs.Performed.{asked, answer_of, Fits, Occurs, Performed}
 use Rattle.runs.specs.Ran.{Straight, at_opening, one_more, Led, IsOf, Values, SharedLuck}
 
-module _ {C I : Type 0} (waiting : C → List Message) (posting : C → Message → C → Type 0) (taking : C → ℕ → ℕ → Message → C → Type 0) (ok : I → Type 0) (packed : I → ℕ) (unpacked : ℕ → Option I) (line : Line) (capacity : ℕ) (coin : Coin) where
+module _ {C : Type 0} (waiting : C → List Message) (posting : C → Message → C → Type 0) (taking : C → ℕ → ℕ → Message → C → Type 0) (line : Line) (capacity : ℕ) (coin : Coin) where
   -- what occurs is a run
-  pub is_run : (start : Held) (from : C) → Run line capacity coin [] start (waiting from) → (es : List Event) (h : Held) (at : C) → Straight waiting posting taking ok packed unpacked line capacity coin start from es h at → Run line capacity coin es h (waiting at)
+  pub is_run : (start : Held) (from : C) → Run line capacity coin [] start (waiting from) → (es : List Event) (h : Held) (at : C) → Straight waiting posting taking line capacity coin start from es h at → Run line capacity coin es h (waiting at)
   is_run start from run _ _ _ at_opening = run
   is_run start from run _ _ _ (one_more {es} {h} {next} {before} {after = end} straight e occurs) = after (is_run start from run es h before straight) e occurs.happens
 
+module _ {C I : Type 0} (waiting : C → List Message) (posting : C → Message → C → Type 0) (taking : C → ℕ → ℕ → Message → C → Type 0) (ok : I → Type 0) (packed : I → ℕ) (unpacked : ℕ → Option I) (line : Line) (capacity : ℕ) (coin : Coin) where
   module _ (turns : List (Turn I)) (start : Held) (from : C) where
     abbrev LedTo : List (Turn I) → Held → C → Type 0
     LedTo ts h at = Led waiting posting taking ok packed unpacked line capacity coin ts start from h at

@@ -39,17 +39,18 @@ pub record Values {I : Type 0} (packed : I → ℕ) (unpacked : ℕ → Option I
 abbrev pub SharedLuck : Line → (ℕ → ℕ → Side) → List Event → Type 0
 SharedLuck line side es = (c k : ℕ) → 1 ≤ k → ((o : ℕ) (u : Side) → Correct line o → Forced es o c k u → u ≡ side c k) → (i : ℕ) → Correct line i → Ended es i c (k + 1) → (l : ℕ) × (l ≤ k + 1) × Decided es i c (side c k) l
 
-module _ {C I : Type 0} (waiting : C → List Message) (posting : C → Message → C → Type 0) (taking : C → ℕ → ℕ → Message → C → Type 0) (ok : I → Type 0) (packed : I → ℕ) (unpacked : ℕ → Option I) where
+module _ {C : Type 0} (waiting : C → List Message) (posting : C → Message → C → Type 0) (taking : C → ℕ → ℕ → Message → C → Type 0) where
   -- Events occur one after another, from memory `start` and carrier `from` on. Nothing stands between them.
   pub data Straight (line : Line) (capacity : ℕ) (coin : Coin) (start : Held) (from : C) : List Event → Held → C → Type 0 where
     at_opening : Straight line capacity coin start from [] start from
     one_more : {es : List Event} {h next : Held} {before after : C} → Straight line capacity coin start from es h before → (e : Event) → Occurs waiting posting taking line coin h capacity e before next after → Straight line capacity coin start from (e ∷ es) next after
 
+module _ {C I : Type 0} (waiting : C → List Message) (posting : C → Message → C → Type 0) (taking : C → ℕ → ℕ → Message → C → Type 0) (ok : I → Type 0) (packed : I → ℕ) (unpacked : ℕ → Option I) where
   -- these turns, one after another and with nothing between them, lead from a memory and a carrier to others
   pub record Led (line : Line) (capacity : ℕ) (coin : Coin) (turns : List (Turn I)) (start : Held) (from : C) (h : Held) (at : C) : Type 0 where
     pub events : List Event
     pub told : map turn_of events ≡ reverse (map (asked packed) turns)
-    pub straight : Straight line capacity coin start from events h at
+    pub straight : Straight waiting posting taking line capacity coin start from events h at
     -- what is announced is the body of a value
     pub fits : (i k b : ℕ) → Announced events i k b → (value : I) × ok value × (packed value ≡ b)
 

@@ -34,7 +34,7 @@ returns-clause-ran g c =
     let start = held c.open_line.new.memory in
     let led = led_all carrier.waiting carrier.posting carrier.taking item.ok item.packed item.unpacked line capacity coin c.args.turns.now start c.args.carrier.now c.loop-turn.turn-index (held c.loop-turn.memory) c.loop-turn.carrier (omega arith) c.loop-turn.invariant.1 in
     let begins = subst (λ ws. Run line capacity coin [] start ws) (sym (opened_idle c.args.draft.plan (held c.args.memory.now) (carrier.waiting c.args.carrier.now) opened.answer.allowed)) (opened.promise.run coin) in
-    let run = is_run carrier.waiting carrier.posting carrier.taking item.ok item.packed item.unpacked line capacity coin start c.args.carrier.now begins led.events _ _ led.straight in
+    let run = is_run carrier.waiting carrier.posting carrier.taking line capacity coin start c.args.carrier.now begins led.events _ _ led.straight in
     let promises = opened.promise.kept coin led.events _ _ run in
     record {
       start = start;
