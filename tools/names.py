@@ -5,7 +5,7 @@ import re
 import sys
 
 ROOT = pathlib.Path(__file__).resolve().parent.parent
-DOCS = ["README.md"] + [f"docs/{name}.md" for name in ("RULES", "SCRIPT", "REFUSALS", "GLOSSARY", "DECISIONS", "PROOFS", "INDEX")]
+DOCS = ["README.md"] + [f"docs/{name}.md" for name in ("RULES", "SCRIPT", "REFUSALS", "GLOSSARY", "DECISIONS", "PROOFS", "INDEX", "USING")]
 DEFINITION = re.compile(r"`([a-z_]+)/specs/([A-Z]\w*)((?:\.\w+)?)`")
 FUNCTION = re.compile(r"`([a-z_]+)((?:::\w+)+)`")
 

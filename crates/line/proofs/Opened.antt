@@ -1,5 +1,5 @@
 -- A line that was opened found an empty carrier.
-use Rattle.std.proofs.Common.{◌≡◌, ℕ, Bool, true, false, eqb, List, [], length, Some, None, refl}
+use Rattle.std.proofs.Common.{◌≡◌, Bool, true, false, eqb, List, [], length, None, refl}
 use Rattle.std.proofs.lemmas.Bool.{eqb-true}
 use Rattle.std.proofs.lemmas.List.{nil_from_length}
 use Rattle.protocol.specs.declared.messages.Message.{Message}

@@ -13,7 +13,7 @@ firsts_to (suc n) = firsts_to n ++ (rows_before (suc n) ∷ [])
 
 abbrev pub rows_for : ℕ → ℕ → List (List ℕ)
 rows_for n zero = []
-rows_for n (suc t) = rows_for n t ++ ((((n + t) / 2 + 1) ∷ (t + 1) ∷ (2 * t + 1) ∷ []) ∷ [])
+rows_for n (suc t) = let s = thresholds_of n t in rows_for n t ++ ((s.echo ∷ s.ready ∷ s.accept ∷ []) ∷ [])
 
 abbrev pub rows_to : ℕ → List (List ℕ)
 rows_to zero = []
@@ -30,7 +30,7 @@ placed n t = eqb (get_or firsts (n - 1) 0 + t) (row_of n t) && ltb (row_of n t) 
 
 -- the numbers of a row are those of the formulas, and sound
 abbrev fit : ℕ → ℕ → ℕ → ℕ → ℕ → Bool
-fit n t echo ready accept = eqb echo ((n + t) / 2 + 1) && (eqb ready (t + 1) && eqb accept (2 * t + 1))
+fit n t echo ready accept = let s = thresholds_of n t in eqb echo s.echo && (eqb ready s.ready && eqb accept s.accept)
 
 abbrev hold : ℕ → ℕ → ℕ → ℕ → ℕ → Bool
 hold n t echo ready accept = ltb (n + t) (2 * echo) && (leb echo (n - t) && (ltb t ready && (leb (ready + t) accept && leb accept (n - t))))
@@ -52,9 +52,9 @@ fits : (n t echo ready accept : ℕ) → fit n t echo ready accept ≡ true → 
 fits n t echo ready accept h =
     let a = and_parts _ _ h in
     let b = and_parts _ _ a.1 in
-    let e = eqb-true echo ((n + t) / 2 + 1) a.0 in
-    let r = eqb-true ready (t + 1) b.0 in
-    let c = eqb-true accept (2 * t + 1) b.1 in
+    let e = eqb-true echo (thresholds_of n t).echo a.0 in
+    let r = eqb-true ready (thresholds_of n t).ready b.0 in
+    let c = eqb-true accept (thresholds_of n t).accept b.1 in
     λ i. record { echo = e i; ready = r i; accept = c i }
 
 holds : (n t echo ready accept : ℕ) → hold n t echo ready accept ≡ true → Sound n t echo ready accept

@@ -2,7 +2,6 @@
 use Rattle.std.proofs.Common.{◌≡◌, ℕ, true, ◌<◌, List, ◌∷◌, ◌++◌, get_or, Option, ap, arith}
 use Rattle.protocol.specs.Bags.{count, Same}
 use Rattle.protocol.specs.declared.messages.Message.{Message}
-use Rattle.protocol.specs.declared.messages.Step.{Step}
 use Rattle.protocol.specs.declared.messages.Step.TheVariants.{Initial}
 use Rattle.protocol.specs.declared.messages.Subject.{Subject}
 use Rattle.protocol.specs.declared.messages.Subject.TheVariants.{Ballot}

@@ -1,5 +1,5 @@
 -- What a turn does to memory and to what waits, and when it is refused. Assumes nothing.
-use Rattle.std.specs.Prelude.{◌≡◌, ℕ, ◌+◌, ◌*◌, ◌/◌, Bool, true, cond, not, ◌&&◌, ◌||◌, List, [], ◌∷◌, ◌++◌, length, Some, None, Option, ◌==◌, nat_le, nat_lt}
+use Rattle.std.specs.Prelude.{◌≡◌, ℕ, ◌+◌, ◌*◌, ◌/◌, Bool, true, cond, not, ◌||◌, List, [], ◌∷◌, ◌++◌, length, Some, None, Option, ◌==◌, nat_le, nat_lt}
 use Rattle.protocol.specs.Bags.{Same, waiting_for}
 use Rattle.protocol.specs.Messages.{originator_of}
 use Rattle.protocol.specs.Numbers.{ballot_number, vote}

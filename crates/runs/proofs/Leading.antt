@@ -1,5 +1,5 @@
 -- Turns one after another. Assumes nothing.
-use Rattle.std.proofs.Common.{◌≡◌, ℕ, ◌+◌, ◌<◌, ◌≤◌, List, [], ◌∷◌, map, reverse, length, Some, Ok, Err, Option, get_or, take, sym, refl, ap, ◌∙◌, subst, ⊎_elim}
+use Rattle.std.proofs.Common.{◌≡◌, ℕ, ◌+◌, ◌<◌, ◌≤◌, List, [], ◌∷◌, map, reverse, length, Option, get_or, take, sym, refl, ap, ◌∙◌, subst, ⊎_elim}
 use mathlib.Core.List.{map-append, reverse-append}
 use Rattle.std.proofs.lemmas.List.{take_more, take_all}
 use Rattle.protocol.specs.declared.messages.Message.{Message}

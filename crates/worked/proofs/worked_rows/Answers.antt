@@ -1,9 +1,6 @@
-use Rattle.std.proofs.Common.{ℕ, ◌≡◌, Some, None, Option, refl}
+use Rattle.std.proofs.Common.{Some, None, refl}
 use Rattle.protocol.specs.Numbers.{vote}
-use Rattle.protocol.specs.declared.votes.Ballot.{Ballot}
-use Rattle.protocol.specs.declared.votes.Side.{Side}
 use Rattle.protocol.specs.declared.votes.Side.TheVariants.{Keep, Release}
-use Rattle.protocol.specs.declared.votes.Kind.TheVariants.{Third}
 use Rattle.item.specs.Records.{recorded}
 use Rattle.cases.specs.Steps.{step_by}
 use Rattle.worked.specs.Rows.{Holds, third}
