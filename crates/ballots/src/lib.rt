@@ -9,6 +9,3 @@ pub mod tallies;
 pub use counting::{count, counting_is_exact};
 pub use rows::valid_ballots;
 pub use tallies::{Allowed, ByBallot, RoundBallots, Tally};
-
-#[cfg(test)]
-mod tests;

@@ -6,6 +6,3 @@ pub mod receiving;
 
 pub use reactions::Reaction;
 pub use receiving::receive;
-
-#[cfg(test)]
-mod tests;

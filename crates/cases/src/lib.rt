@@ -7,6 +7,3 @@ pub mod steps;
 
 pub use choosing::next_step;
 pub use steps::Step;
-
-#[cfg(test)]
-mod tests;

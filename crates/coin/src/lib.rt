@@ -9,6 +9,3 @@ pub mod words;
 pub use coins::{Coin, SharedCoin};
 pub use strips::{DealerStrip, OwnStrip};
 pub use words::WordCoin;
-
-#[cfg(test)]
-mod tests;

@@ -9,6 +9,3 @@ pub mod tags;
 pub use items::Item;
 pub use records::Record;
 pub use tags::Tag;
-
-#[cfg(test)]
-mod tests;

@@ -36,7 +36,7 @@ const NOTHING: Delivered = Delivered {
     accepted: false,
 };
 
-// The tests of memory have these two as well: a crate for them would be a dependency of its code.
+// The tests of parts have these two as well.
 fn item(originator: u64, serial: u64) -> Subject {
     Subject::Item { originator, serial }
 }

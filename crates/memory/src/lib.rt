@@ -9,6 +9,3 @@ pub use memories::Memory;
 pub use places::Place;
 pub use places::slots::{case_place, is_within, place_of};
 pub use records::{BroadcastRecord, CaseRecord, Decision, Slip, Stage};
-
-#[cfg(test)]
-mod tests;

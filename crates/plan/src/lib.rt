@@ -6,6 +6,3 @@ pub mod plans;
 
 pub use drafts::{Draft, Line};
 pub use plans::{Needs, Plan, Thresholds};
-
-#[cfg(test)]
-mod tests;

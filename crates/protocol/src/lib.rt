@@ -8,6 +8,3 @@ pub mod votes;
 pub use messages::{Message, PROCESSES, Step, Subject};
 pub use refusals::Refusal;
 pub use votes::{Ballot, Kind, Side};
-
-#[cfg(test)]
-mod tests;

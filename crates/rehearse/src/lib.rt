@@ -4,6 +4,3 @@
 mod rehearser;
 
 pub use rehearser::rehearse;
-
-#[cfg(test)]
-mod tests;

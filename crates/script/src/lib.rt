@@ -10,6 +10,3 @@ pub use fault::ScriptFault;
 pub use linter::{LIMIT, check_line, check_size, lint};
 pub use responder::{Responder, answer};
 pub use split::{Lines, ScriptLine};
-
-#[cfg(test)]
-mod tests;

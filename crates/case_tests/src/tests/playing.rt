@@ -35,7 +35,7 @@ impl<'v> Row<'v> {
 }
 
 // Ballots stand as numbers in the tests: a table cannot call `number`, and some bodies are no ballot's. The tests of
-// ballots and of cases have this too: a crate for it would be a dependency of their code.
+// parts have this too.
 pub fn accepted(body: u64) -> BroadcastRecord {
     BroadcastRecord {
         stage: Stage::Accepted(body),

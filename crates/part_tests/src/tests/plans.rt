@@ -1,5 +1,4 @@
-use crate::drafts::{Draft, Line};
-use crate::plans::Plan;
+use plan::{Draft, Line, Plan};
 use protocol::Refusal;
 use std::test::Fail;
 

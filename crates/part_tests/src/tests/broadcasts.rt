@@ -1,5 +1,4 @@
-use crate::reactions::Reaction;
-use crate::receiving::receive;
+use broadcast::{Reaction, receive};
 use memory::{BroadcastRecord, Memory};
 use plan::Plan;
 use protocol::{Message, Step, Subject};

@@ -1,6 +1,4 @@
-use crate::memories::Memory;
-use crate::places::slots::{case_place, place_of};
-use crate::records::{BroadcastRecord, CaseRecord, Slip, Stage};
+use memory::{BroadcastRecord, CaseRecord, Memory, Slip, Stage, case_place, place_of};
 use plan::Plan;
 use protocol::Subject;
 use std::test::Fail;
@@ -15,7 +13,7 @@ const OPENED: CaseRecord = CaseRecord {
     slip: Slip::Out,
 };
 
-// The tests of a line have these two as well: a crate for them would be a dependency of the code here.
+// The tests of a line have these two as well: a crate for three constructors would be a library with contracts of its own.
 fn item(originator: u64, serial: u64) -> Subject {
     Subject::Item { originator, serial }
 }

@@ -1,8 +1,6 @@
 ghost use Rattle.std.specs.Prelude.{◌≡◌, Some};
 
-use crate::items::Item;
-use crate::records::Record;
-use crate::tags::Tag;
+use item::{Item, Record, Tag};
 use protocol::{Ballot, Refusal};
 use std::test::Fail;
 

@@ -1,6 +1,4 @@
-use crate::messages::{Message, Step, Subject};
-use crate::refusals::Refusal;
-use crate::votes::Ballot;
+use protocol::{Ballot, Message, Refusal, Step, Subject};
 use std::test::Fail;
 
 #[test]

@@ -1,8 +1,6 @@
-use crate::fault::ScriptFault;
-use crate::linter::{check_line, lint};
-use crate::split::ScriptLine;
 use form::Form;
 use protocol::Refusal;
+use script::{ScriptFault, ScriptLine, check_line, lint};
 use std::test::Fail;
 
 #[test]

@@ -1,15 +1,9 @@
-use crate::rows::valid_ballots;
-use memory::{BroadcastRecord, CaseRecord, Memory, Stage};
+use crate::tests::accepted;
+use ballots::valid_ballots;
+use memory::{BroadcastRecord, CaseRecord, Memory};
 use plan::Plan;
 use protocol::Ballot;
 use std::test::Fail;
-
-// The tests of cases and case_tests have this too: a crate for it would be a dependency of their code.
-fn accepted(body: u64) -> BroadcastRecord {
-    BroadcastRecord {
-        stage: Stage::Accepted(body),
-    }
-}
 
 // Process 0 has accepted a keep and three releases in the first round, and then two keeps, a release and an open.
 #[test]

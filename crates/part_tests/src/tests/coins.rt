@@ -1,8 +1,6 @@
 ghost use Rattle.std.specs.Prelude.{◌≡◌, true};
 
-use crate::coins::{Coin, SharedCoin};
-use crate::strips::{DealerStrip, OwnStrip};
-use crate::words::WordCoin;
+use coin::{Coin, DealerStrip, OwnStrip, SharedCoin, WordCoin};
 use plan::Plan;
 use protocol::Side;
 use std::test::Fail;

@@ -1,4 +1,4 @@
-use crate::rehearser::rehearse;
+use rehearse::rehearse;
 use std::test::Fail;
 use text::Text;
 

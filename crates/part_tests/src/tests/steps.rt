@@ -1,16 +1,9 @@
-use crate::choosing::next_step;
-use crate::steps::Step;
-use memory::{BroadcastRecord, CaseRecord, Memory, Stage};
+use crate::tests::accepted;
+use cases::{Step, next_step};
+use memory::{CaseRecord, Memory};
 use plan::Plan;
 use protocol::{Ballot, Side};
 use std::test::Fail;
-
-// The tests of ballots and case_tests have this too: a crate for it would be a dependency of their code.
-fn accepted(body: u64) -> BroadcastRecord {
-    BroadcastRecord {
-        stage: Stage::Accepted(body),
-    }
-}
 
 // A process that is alone has accepted its release, its release again and its proposal.
 fn step_from(round: u8) -> Result<Option<Step>, Fail> {

@@ -1,0 +1,5 @@
+// Tests of whole scripts, checked and acted on.
+#![tactic(auto)]
+
+#[cfg(test)]
+mod tests;

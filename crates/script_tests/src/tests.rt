@@ -1,0 +1,2 @@
+mod linting;
+mod rehearsing;
