@@ -2,4 +2,3 @@ pub mod Rounds
 pub mod Validity
 pub mod Decisions
 pub mod Maps
-pub mod Accounts

@@ -15,8 +15,7 @@ use Rattle.protocol.specs.Phases.{kind}
 use Rattle.consensus.specs.Rounds.{BallotMap, tally, Allows}
 use Rattle.consensus.specs.Validity.{Justified, Part}
 use Rattle.consensus.specs.Decisions.{Tossed}
-use Rattle.consensus.specs.Accounts.{Left}
-use Rattle.consensus.proofs.Accounts.{justified_grows, left_grows}
+use Rattle.consensus.proofs.Accounts.{Left, justified_grows, left_grows}
 use Rattle.ballots.specs.Places.{ballots_at}
 use Rattle.cases.specs.Steps.{round_at, Says}
 use Rattle.cases.specs.declared.steps.Step.{Step}

@@ -23,8 +23,7 @@ use Rattle.protocol.specs.declared.votes.Kind.TheVariants.{Third}
 use Rattle.protocol.specs.Phases.{kind}
 use Rattle.consensus.specs.Rounds.{BallotMap}
 use Rattle.consensus.specs.Validity.{Quorum, Part, Resilient}
-use Rattle.consensus.specs.Accounts.{Account, Outcomes}
-use Rattle.consensus.proofs.Accounts.{outcomes}
+use Rattle.consensus.proofs.Accounts.{Account, Outcomes, outcomes}
 use Rattle.ballots.specs.Places.{ballots_at}
 use Rattle.ballots.proofs.Reading.{ballot_within, covered}
 use Rattle.cases.specs.Steps.{round_at, may_advance, step_at, chosen}

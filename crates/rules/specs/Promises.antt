@@ -7,6 +7,7 @@ use Rattle.protocol.specs.declared.votes.Side.{Side}
 use Rattle.protocol.specs.declared.votes.Side.TheVariants.{Release}
 use Rattle.protocol.specs.Faults.{CorrectOf, QuietOf}
 use Rattle.plan.specs.Kinds.{Line}
+use Rattle.plan.specs.Plans.{rounds}
 use Rattle.memory.specs.Contents.{Held, case_at}
 use Rattle.memory.specs.Places.{within, body_at, case_place}
 use Rattle.consensus.specs.Validity.{Quorum}
@@ -26,7 +27,7 @@ Quiet line ws = QuietOf line.plan.n (faulty line) ws
 -- Process i cannot go on in case c: it has not opened it or has ended it, or no n - t ballots of its round are valid at it.
 -- Rounds count from 0 in a set.
 abbrev pub Stuck : Line → Held → ℕ → ℕ → Type 0
-Stuck line h i c = (r : ℕ) (S : ℕ → Bool) → round_at line.plan h i c ≡ suc r → r < 3 * line.plan.phases → Quorum line.plan.n line.plan.t (ballots_at line.plan h i c) r S → ⊥
+Stuck line h i c = (r : ℕ) (S : ℕ → Bool) → round_at line.plan h i c ≡ suc r → r < rounds line.plan → Quorum line.plan.n line.plan.t (ballots_at line.plan h i c) r S → ⊥
 
 -- and none of them may advance in any case
 pub record AtRest (line : Line) (h : Held) (ws : List Message) : Type 0 where
