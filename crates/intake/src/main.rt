@@ -8,11 +8,10 @@ mod release;
 mod story;
 mod words;
 
-use carriers::Basket;
+use carriers::{Basket, Watch};
 use memory::{BroadcastRecord, CaseRecord, Memory};
 use protocol::Message;
 use story::{Story, open_four};
-use watch::Watch;
 
 // Lends the memory that four processes with two serials each need for a case of two phases.
 fn main(rt: HostRuntime) -> anyhow::Result<()> {

@@ -1,11 +1,11 @@
 // Who tells the story, in which order, and what its parts share.
 use carrier::Carrier;
+use carriers::Watch;
 use line::{deliver, forge, open_line};
 use memory::Memory;
 use plan::{Draft, Line, Plan};
 use protocol::{Message, Refusal, Step, Subject};
 use rules::Delivered;
-use watch::Watch;
 
 pub const FAULTY: u64 = 3;
 

@@ -1,3 +1,4 @@
+use crate::tests::assert_same;
 use crate::tests::playing::{Hall, accepted};
 use carriers::Queue;
 use coin::WordCoin;
@@ -63,7 +64,7 @@ fn stored_numbers_are_taken_as_they_are(rt: HostRuntime) -> Result<(), Fail> {
         (255, 0, (rest, opened, Ok(0))),
     ];
     for (round, serial, expected) in rows {
-        assert_eq!(rt; answers(round, serial)?, expected);
+        assert_same(&rt, answers(round, serial)?, expected);
     }
     Ok(())
 }
@@ -82,14 +83,14 @@ fn the_stored_decision_stands(rt: HostRuntime) -> Result<(), Fail> {
         slip: Slip::Out,
     };
     run_alone(case, 0, |hall| {
-        assert_eq!(rt; hall.open_case(0, 1)?, 1);
+        assert_same(&rt, hall.open_case(0, 1)?, 1);
         for round in 1..4 {
-            assert_eq!(rt; hall.memory.case_record(0).round, round);
-            assert_eq!(rt; hall.memory.case_record(0).decision, Some(early));
+            assert_same(&rt, hall.memory.case_record(0).round, round);
+            assert_same(&rt, hall.memory.case_record(0).decision, Some(early));
             let _ = hall.advance(0)?;
         }
-        assert_eq!(rt; hall.memory.case_record(0).decision, Some(early));
-        assert_eq!(rt; hall.memory.case_record(0).slip, Slip::Out);
+        assert_same(&rt, hall.memory.case_record(0).decision, Some(early));
+        assert_same(&rt, hall.memory.case_record(0).slip, Slip::Out);
         Ok(())
     })
 }

@@ -1,4 +1,5 @@
 // A case from its opening to its end.
+use crate::tests::assert_same;
 use carrier::Carrier;
 use coin::Coin;
 use item::Item;
@@ -109,10 +110,10 @@ impl<'m, 'c, 'k, C: Carrier, K: Coin> Hall<'m, 'c, 'k, C, K> {
         for process in 0..self.line.plan().n() {
             if !self.line.is_faulty(process) {
                 let record = self.memory.case_record(process as usize);
-                assert_eq!(rt; record.round, 7);
-                assert_eq!(rt; record.decision, told.or(record.decision));
+                assert_same(rt, record.round, 7);
+                assert_same(rt, record.decision, told.or(record.decision));
                 if let Some(Decision { side, .. }) = record.decision {
-                    assert_eq!(rt; side, last.unwrap_or(side));
+                    assert_same(rt, side, last.unwrap_or(side));
                     last = Some(side);
                 }
             }

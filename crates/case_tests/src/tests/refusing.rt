@@ -1,3 +1,4 @@
+use crate::tests::assert_same;
 use crate::tests::playing::accepted;
 use carriers::Queue;
 use coin::WordCoin;
@@ -62,7 +63,11 @@ fn opening_is_refused_in_order(rt: HostRuntime) {
         (4, 4, 1, 0, 1, Ok(4)),
     ];
     for (serials, free, process, case, vote, expected) in rows {
-        assert_eq!(rt; try_to_open(serials, free, process, case, vote), expected);
+        assert_same(
+            &rt,
+            try_to_open(serials, free, process, case, vote),
+            expected,
+        );
     }
 }
 
@@ -111,6 +116,6 @@ fn advancing_is_refused_in_order(rt: HostRuntime) {
         (4, 0, 1, 0, Ok(end)),
     ];
     for (serials, free, process, case, expected) in rows {
-        assert_eq!(rt; try_to_advance(serials, free, process, case), expected);
+        assert_same(&rt, try_to_advance(serials, free, process, case), expected);
     }
 }

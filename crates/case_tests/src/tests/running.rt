@@ -1,3 +1,4 @@
+use crate::tests::assert_same;
 use carrier::is_idle;
 use carriers::Queue;
 use coin::WordCoin;
@@ -66,22 +67,22 @@ fn a_run_is_a_list_of_turns(rt: HostRuntime) -> Result<(), Fail> {
     let opened = run(draft, &mut memory, &mut carrier, &coin, &turns);
     let line = opened.map_err(|(refusal, _draft)| refusal)?;
     assert!(rt; is_idle(&carrier));
-    assert_eq!(rt; memory.next_serial(0), 1);
-    assert_eq!(rt; memory.case_record(0).round, 3);
+    assert_same(&rt, memory.next_serial(0), 1);
+    assert_same(&rt, memory.case_record(0).round, 3);
     for (place, expected) in [(0, 5), (1, 1), (2, 1), (3, 3)] {
-        assert_eq!(rt; memory.stage(place).accepted(), Some(expected));
+        assert_same(&rt, memory.stage(place).accepted(), Some(expected));
     }
     let answer = perform(&line, &mut memory, &mut carrier, &coin, &advance())?;
     let last = Advanced {
         round: 4,
         posted: 0,
     };
-    assert_eq!(rt; answer, Answer::Advanced(last));
+    assert_same(&rt, answer, Answer::Advanced(last));
     let decided = Decision {
         side: Side::Release,
         phase: 1,
     };
-    assert_eq!(rt; memory.case_record(0).decision, Some(decided));
+    assert_same(&rt, memory.case_record(0).decision, Some(decided));
     Ok(())
 }
 
@@ -102,8 +103,8 @@ fn a_shared_run_is_one_too(rt: HostRuntime) -> Result<(), Fail> {
     let opened = run_shared(draft, &mut memory, &mut carrier, &coin, &turns);
     opened.map_err(|(refusal, _draft)| refusal)?;
     assert!(rt; is_idle(&carrier));
-    assert_eq!(rt; memory.next_serial(0), 1);
-    assert_eq!(rt; memory.case_record(0).round, 3);
+    assert_same(&rt, memory.next_serial(0), 1);
+    assert_same(&rt, memory.case_record(0).round, 3);
     Ok(())
 }
 
@@ -121,6 +122,6 @@ fn a_shared_run_may_have_no_turn(rt: HostRuntime) -> Result<(), Fail> {
     let coin = WordCoin::new(0);
     let opened = run_shared(draft, &mut memory, &mut carrier, &coin, &none);
     opened.map_err(|(refusal, _draft)| refusal)?;
-    assert_eq!(rt; memory.next_serial(0), 0);
+    assert_same(&rt, memory.next_serial(0), 0);
     Ok(())
 }

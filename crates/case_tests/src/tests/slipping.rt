@@ -1,4 +1,5 @@
 // Slips on their own line and on others. Who holds a slip cannot leave by `?`: no test may end with a slip.
+use crate::tests::assert_same;
 use memory::{BroadcastRecord, CaseRecord, Decision, Memory, Slip};
 use plan::{Draft, Line, Plan};
 use protocol::{Refusal, Side};
@@ -24,7 +25,7 @@ fn issue_refused(
 ) {
     match issue(line, memory, process, case) {
         Ok(_slip) => panic!(rt; "a slip was issued"),
-        Err(refusal) => assert_eq!(rt; refusal, expected),
+        Err(refusal) => assert_same(rt, refusal, expected),
     }
 }
 
@@ -43,7 +44,7 @@ fn refused(
     match answer {
         Ok(()) => panic!(rt; "the slip was taken"),
         Err((refusal, slip)) => {
-            assert_eq!(rt; refusal, expected);
+            assert_same(rt, refusal, expected);
             slip
         }
     }
@@ -93,18 +94,27 @@ fn a_slip_that_was_put_back_is_issued_again(rt: HostRuntime) -> Result<(), Fail>
         serials: &mut [0],
     };
     let slip = issue(&line, memory, 0, 0)?;
-    assert_eq!(rt; memory.case_record(0), decided(Side::Release, Slip::Out));
+    assert_same(
+        &rt,
+        memory.case_record(0),
+        decided(Side::Release, Slip::Out),
+    );
     issue_refused(&rt, &line, memory, 0, 0, Refusal::SlipRefused);
     taken(&rt, put_back(&line, memory, slip));
-    assert_eq!(rt; memory.case_record(0), decided(Side::Release, Slip::Absent));
+    assert_same(
+        &rt,
+        memory.case_record(0),
+        decided(Side::Release, Slip::Absent),
+    );
     let (slip, process, case) = issue(&line, memory, 0, 0)?.stub();
     issue_refused(&rt, &line, memory, 0, 0, Refusal::SlipRefused);
     taken(&rt, hand_over(&line, memory, slip));
-    assert_eq!(rt; (process, case), (0, 0));
+    assert_same(&rt, (process, case), (0, 0));
     issue_refused(&rt, &line, memory, 0, 0, Refusal::SlipRefused);
-    assert_eq!(rt;
+    assert_same(
+        &rt,
         memory.case_record(0),
-        decided(Side::Release, Slip::HandedOver)
+        decided(Side::Release, Slip::HandedOver),
     );
     Ok(())
 }
@@ -129,7 +139,7 @@ fn comes_back(
     let slip = refused(rt, hand_over(&line, &mut memory, slip), expected);
     let slip = refused(rt, put_back(&line, &mut memory, slip), expected);
     for record in memory.cases.iter() {
-        assert_eq!(rt; *record, before);
+        assert_same(rt, *record, before);
     }
     slip
 }
@@ -159,9 +169,10 @@ fn a_slip_comes_back_from_another_line(rt: HostRuntime) -> Result<(), Fail> {
         slip = comes_back(&rt, plan, serials, state, slip, expected);
     }
     taken(&rt, hand_over(&line, memory, slip));
-    assert_eq!(rt;
+    assert_same(
+        &rt,
         memory.case_record(7),
-        decided(Side::Release, Slip::HandedOver)
+        decided(Side::Release, Slip::HandedOver),
     );
     Ok(())
 }
@@ -181,7 +192,11 @@ fn a_slip_is_taken_where_its_numbers_are_out(rt: HostRuntime) -> Result<(), Fail
     };
     let slip = issue(&Line::from(Draft::new(plan)), memory, 0, 0)?;
     taken(&rt, put_back(&other, memory, slip));
-    assert_eq!(rt; memory.case_record(0), decided(Side::Release, Slip::Absent));
+    assert_same(
+        &rt,
+        memory.case_record(0),
+        decided(Side::Release, Slip::Absent),
+    );
     Ok(())
 }
 
@@ -206,11 +221,16 @@ fn a_second_slip_in_a_row_comes_back(rt: HostRuntime) -> Result<(), Fail> {
     taken(&rt, hand_over(&line, memory, first));
     let second = refused(&rt, hand_over(&line, memory, second), Refusal::SlipRefused);
     let second = refused(&rt, put_back(&line, memory, second), Refusal::SlipRefused);
-    assert_eq!(rt;
+    assert_same(
+        &rt,
         memory.case_record(0),
-        decided(Side::Release, Slip::HandedOver)
+        decided(Side::Release, Slip::HandedOver),
     );
     taken(&rt, put_back(&line, home, second));
-    assert_eq!(rt; home.case_record(0), decided(Side::Release, Slip::Absent));
+    assert_same(
+        &rt,
+        home.case_record(0),
+        decided(Side::Release, Slip::Absent),
+    );
     Ok(())
 }

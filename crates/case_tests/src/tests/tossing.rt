@@ -1,3 +1,4 @@
+use crate::tests::assert_same;
 use crate::tests::playing::{Hall, opened};
 use carrier::Carrier;
 use carriers::Queue;
@@ -14,13 +15,13 @@ impl<'m, 'c, 'k, C: Carrier, K: Coin> Hall<'m, 'c, 'k, C, K> {
     // the coin.
     fn vote_unevenly(&mut self, rt: &impl Abort) -> Result<(), Fail> {
         for (process, vote) in [(1, 0), (2, 1), (3, 1)] {
-            assert_eq!(rt; self.open_case(process, vote)?, 4);
+            assert_same(rt, self.open_case(process, vote)?, 4);
         }
         self.deliver_all()?;
         for process in [1, 2] {
-            assert_eq!(rt; self.advance(process)?.round, 2);
+            assert_same(rt, self.advance(process)?.round, 2);
         }
-        assert_eq!(rt; self.open_case(0, 0)?, 4);
+        assert_same(rt, self.open_case(0, 0)?, 4);
         Ok(())
     }
 }

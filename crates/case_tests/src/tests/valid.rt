@@ -1,4 +1,5 @@
 // What is accepted makes ballots valid, and only valid ones count.
+use crate::tests::assert_same;
 use crate::tests::playing::accepted;
 use carriers::Queue;
 use coin::WordCoin;
@@ -40,13 +41,13 @@ fn a_ballot_is_invalid_until_a_set_allows_it(rt: HostRuntime) -> Result<(), Fail
     records[1] = accepted(0);
     records[4] = accepted(0);
     records[7] = accepted(0);
-    assert_eq!(rt; go_on(2, records)?, (Err(Refusal::MayNotAdvance), None));
+    assert_same(&rt, go_on(2, records)?, (Err(Refusal::MayNotAdvance), None));
     records[9] = accepted(0);
     let advanced = Advanced {
         round: 3,
         posted: 4,
     };
-    assert_eq!(rt; go_on(2, records)?, (Ok(advanced), None));
+    assert_same(&rt, go_on(2, records)?, (Ok(advanced), None));
     Ok(())
 }
 
@@ -68,8 +69,8 @@ fn of_two_sides_proposed_one_is_valid(rt: HostRuntime) -> Result<(), Fail> {
         side: Side::Release,
         phase: 1,
     };
-    assert_eq!(rt; go_on(3, records)?, (Ok(advanced), Some(decision)));
+    assert_same(&rt, go_on(3, records)?, (Ok(advanced), Some(decision)));
     records[5] = accepted(2);
-    assert_eq!(rt; go_on(3, records)?, (Err(Refusal::MayNotAdvance), None));
+    assert_same(&rt, go_on(3, records)?, (Err(Refusal::MayNotAdvance), None));
     Ok(())
 }

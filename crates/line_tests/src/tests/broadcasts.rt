@@ -60,9 +60,10 @@ impl<'h, 'm, 'c, C: Carrier> Hall<'h, 'm, 'c, C> {
     fn all_read(&self, rt: &impl Abort, expected: Reading<u64>) {
         let plan = self.line.plan();
         for process in 0..plan.quorum() {
-            assert_eq!(rt;
+            assert_same(
+                rt,
                 self.read::<Tag>(process, item(plan.n() - 1, 0)),
-                Ok(expected)
+                Ok(expected),
             );
         }
     }
@@ -83,14 +84,15 @@ fn reaches_all<C: Carrier>(
         serial: 0,
         posted: plan.n(),
     };
-    assert_eq!(rt; hall.announce(0, &record)?, announced);
-    assert_eq!(rt; hall.deliver_all(rt, pick)?, plan.n());
+    assert_same(rt, hall.announce(0, &record)?, announced);
+    assert_same(rt, hall.deliver_all(rt, pick)?, plan.n());
     for process in 0..plan.n() {
-        assert_eq!(rt;
+        assert_same(
+            rt,
             hall.read::<Record>(process, ITEM),
-            Ok(Reading::Value(BODY))
+            Ok(Reading::Value(BODY)),
         );
-        assert_eq!(rt; hall.read::<Tag>(process, ITEM), Ok(Reading::Unreadable));
+        assert_same(rt, hall.read::<Tag>(process, ITEM), Ok(Reading::Unreadable));
     }
     Ok(())
 }
@@ -200,7 +202,7 @@ fn stories_end_alike<C: Carrier>(
         hall.tell(Step::Initial, initials)?;
         hall.tell(Step::Echo, echoes)?;
         hall.tell(Step::Ready, readies)?;
-        assert_eq!(rt; hall.deliver_all(rt, pick)?, count);
+        assert_same(rt, hall.deliver_all(rt, pick)?, count);
         hall.all_read(rt, expected);
     }
     Ok(())
@@ -218,7 +220,7 @@ fn first_of_two_counts<C: Carrier>(
     let mut hall = Hall::new(line, memory, carrier);
     hall.tell(Step::Initial, [1, 1, 1])?;
     hall.tell(Step::Initial, [2, 2, 2])?;
-    assert_eq!(rt; hall.deliver_all(rt, pick)?, 3);
+    assert_same(rt, hall.deliver_all(rt, pick)?, 3);
     hall.all_read(rt, Reading::Value(first));
     Ok(())
 }
@@ -289,7 +291,7 @@ fn camps_end_alike<C: Carrier>(
         for (addressee, body) in (0..).zip(bodies) {
             hall.tell_one(addressee, *body)?;
         }
-        assert_eq!(rt; hall.deliver_all(rt, pick)?, count);
+        assert_same(rt, hall.deliver_all(rt, pick)?, count);
         hall.all_read(rt, expected);
     }
     Ok(())

@@ -47,17 +47,17 @@ fn what_lies_outside_the_plan_is_dropped(rt: HostRuntime) -> Result<(), Fail> {
     for (sender, subject) in rows {
         for step in [Step::Initial, Step::Echo, Step::Ready] {
             let message = Message::new(sender, 2, step, subject, 7)?;
-            assert_eq!(rt; hall.give(message), Ok(NOTHING));
+            assert_same(&rt, hall.give(message), Ok(NOTHING));
         }
     }
-    assert_eq!(rt; hall.heard(), 0);
-    assert_eq!(rt; hall.free(), 9);
+    assert_same(&rt, hall.heard(), 0);
+    assert_same(&rt, hall.free(), 9);
     let message = Message::new(3, 2, Step::Initial, ballot(3, 0, 3), 7)?;
     let echoed = Delivered {
         posted: 4,
         accepted: false,
     };
-    assert_eq!(rt; hall.give(message), Ok(echoed));
+    assert_same(&rt, hall.give(message), Ok(echoed));
     Ok(())
 }
 
@@ -100,11 +100,11 @@ fn repeats_and_latecomers_change_nothing(rt: HostRuntime) -> Result<(), Fail> {
     let mut hall = Hall::new(line, memory, carrier);
     for (sender, step, body, posted, accepted, bodies) in LIFE {
         let message = Message::new(sender, 2, step, ITEM, body)?;
-        assert_eq!(rt; hall.give(message), Ok(Delivered { posted, accepted }));
-        assert_eq!(rt; hall.heard(), bodies);
+        assert_same(&rt, hall.give(message), Ok(Delivered { posted, accepted }));
+        assert_same(&rt, hall.heard(), bodies);
     }
-    assert_eq!(rt; hall.free(), 9);
-    assert_eq!(rt; hall.read::<Tag>(2, ITEM), Ok(Reading::Value(7)));
+    assert_same(&rt, hall.free(), 9);
+    assert_same(&rt, hall.read::<Tag>(2, ITEM), Ok(Reading::Value(7)));
     Ok(())
 }
 
@@ -155,10 +155,14 @@ fn a_call_goes_by_what_it_finds(rt: HostRuntime) -> Result<(), Fail> {
         let mut hall = Hall::new(line, memory, carrier);
         let value = Tag::new(5)?;
         let message = Message::new(0, 1, step, ITEM, body)?;
-        assert_eq!(rt; hall.give(message), Ok(Delivered { posted, accepted }));
-        assert_eq!(rt; hall.read::<Tag>(1, ITEM), Ok(reading));
+        assert_same(&rt, hall.give(message), Ok(Delivered { posted, accepted }));
+        assert_same(&rt, hall.read::<Tag>(1, ITEM), Ok(reading));
         for process in 0..3 {
-            assert_eq!(rt; hall.announce(process, &value), Err(Refusal::SerialsUsedUp));
+            assert_same(
+                &rt,
+                hall.announce(process, &value),
+                Err(Refusal::SerialsUsedUp),
+            );
         }
     }
     Ok(())
@@ -176,22 +180,26 @@ fn opening_clears_what_is_needed_and_no_more(rt: HostRuntime) -> Result<(), Fail
     let mut places = [Message::BLANK; 3];
     let carrier = &mut Queue::new(&mut places);
     let line = opened(Draft::new(Plan::new(1, 0, 1, 1, 1)?), memory, carrier)?;
-    assert_eq!(rt; memory.case_record(0).round, 0);
+    assert_same(&rt, memory.case_record(0).round, 0);
     let mut hall = Hall::new(line, memory, carrier);
-    assert_eq!(rt; hall.heard(), 1);
-    assert_eq!(rt; hall.read::<Tag>(0, ballot(0, 0, 3)), Ok(Reading::Nothing));
+    assert_same(&rt, hall.heard(), 1);
+    assert_same(
+        &rt,
+        hall.read::<Tag>(0, ballot(0, 0, 3)),
+        Ok(Reading::Nothing),
+    );
     let announced = Announced {
         serial: 0,
         posted: 1,
     };
-    assert_eq!(rt; hall.announce(0, &Tag::new(5)?), Ok(announced));
+    assert_same(&rt, hall.announce(0, &Tag::new(5)?), Ok(announced));
     for (posted, accepted) in [(1, false), (1, false), (0, true)] {
-        assert_eq!(rt; hall.deliver(0, 0), Ok(Delivered { posted, accepted }));
+        assert_same(&rt, hall.deliver(0, 0), Ok(Delivered { posted, accepted }));
     }
-    assert_eq!(rt; hall.read::<Tag>(0, ITEM), Ok(Reading::Value(5)));
-    assert_eq!(rt; hall.heard(), 3);
-    assert_eq!(rt; memory.case_record(1).round, 200);
-    assert_eq!(rt; memory.next_serial(1), 255);
+    assert_same(&rt, hall.read::<Tag>(0, ITEM), Ok(Reading::Value(5)));
+    assert_same(&rt, hall.heard(), 3);
+    assert_same(&rt, memory.case_record(1).round, 200);
+    assert_same(&rt, memory.next_serial(1), 255);
     Ok(())
 }
 
@@ -228,9 +236,17 @@ fn reading_finds_the_record(rt: HostRuntime) -> Result<(), Fail> {
         (2, ballot(3, 0, 4), Err(Refusal::SubjectOutOfPlan)),
     ];
     for (process, subject, expected) in rows {
-        assert_eq!(rt; hall.read::<Tag>(process, subject), expected);
+        assert_same(&rt, hall.read::<Tag>(process, subject), expected);
     }
-    assert_eq!(rt; hall.read::<Ballot>(2, item(3, 1)), Ok(Reading::Value(3)));
-    assert_eq!(rt; hall.read::<Record>(2, item(3, 1)), Ok(Reading::Unreadable));
+    assert_same(
+        &rt,
+        hall.read::<Ballot>(2, item(3, 1)),
+        Ok(Reading::Value(3)),
+    );
+    assert_same(
+        &rt,
+        hall.read::<Record>(2, item(3, 1)),
+        Ok(Reading::Unreadable),
+    );
     Ok(())
 }

@@ -40,14 +40,14 @@ fn all_refuse<C: Carrier>(
     let message = Message::new(4, 0, Step::Echo, item(4, 2), 1)?;
     carrier.post(message)?;
     let (refusal, draft) = refused(Draft::new(plan), memory, carrier)?;
-    assert_eq!(rt; refusal, opening);
+    assert_same(rt, refusal, opening);
     let mut hall = Hall::new(Line::from(draft), memory, carrier);
-    assert_eq!(rt; hall.announce(4, &Tag::new(1)?), Err(others));
-    assert_eq!(rt; hall.forge(message), Err(others));
-    assert_eq!(rt; hall.deliver(4, 0), Err(others));
-    assert_eq!(rt; hall.read::<Tag>(4, item(4, 2)), Err(others));
-    assert_eq!(rt; hall.waiting_for(0), 1);
-    assert_eq!(rt; hall.free(), 0);
+    assert_same(rt, hall.announce(4, &Tag::new(1)?), Err(others));
+    assert_same(rt, hall.forge(message), Err(others));
+    assert_same(rt, hall.deliver(4, 0), Err(others));
+    assert_same(rt, hall.read::<Tag>(4, item(4, 2)), Err(others));
+    assert_same(rt, hall.waiting_for(0), 1);
+    assert_same(rt, hall.free(), 0);
     Ok(())
 }
 
@@ -81,7 +81,7 @@ fn a_place_too_few_is_refused_by_all(rt: HostRuntime) -> Result<(), Fail> {
             opening,
             others,
         )?;
-        assert_eq!(rt; heard(&memory), bodies);
+        assert_same(&rt, heard(&memory), bodies);
     }
     Ok(())
 }
@@ -101,10 +101,10 @@ fn opening_waits_for_an_empty_carrier(rt: HostRuntime) -> Result<(), Fail> {
         queue.post(Message::new(0, addressee, Step::Echo, ITEM, 1)?)?;
         let draft = draft_with_faulty(Plan::new(4, 1, 1, 0, 1)?, 3..4)?;
         let (refusal, draft) = refused(draft, &mut memory, &queue)?;
-        assert_eq!(rt; refusal, Refusal::MessageWaiting);
+        assert_same(&rt, refusal, Refusal::MessageWaiting);
         assert!(rt; draft.is_faulty(3));
-        assert_eq!(rt; heard(&memory), 128);
-        assert_eq!(rt; queue.waiting_for(addressee), 1);
+        assert_same(&rt, heard(&memory), 128);
+        assert_same(&rt, queue.waiting_for(addressee), 1);
     }
     Ok(())
 }
@@ -141,11 +141,11 @@ fn announcing_takes_serials_and_room(rt: HostRuntime) -> Result<(), Fail> {
         (1, Err(Refusal::NoRoom)),
     ];
     for (process, expected) in rows {
-        assert_eq!(rt; hall.announce(process, &Tag::new(5)?), expected);
+        assert_same(&rt, hall.announce(process, &Tag::new(5)?), expected);
     }
-    assert_eq!(rt; hall.free(), 3);
-    assert_eq!(rt; memory.next_serial(0), 2);
-    assert_eq!(rt; memory.next_serial(1), 0);
+    assert_same(&rt, hall.free(), 3);
+    assert_same(&rt, memory.next_serial(0), 2);
+    assert_same(&rt, memory.next_serial(1), 0);
     Ok(())
 }
 
@@ -181,9 +181,9 @@ fn forging_is_for_faulty_senders_within_the_plan(rt: HostRuntime) -> Result<(), 
     ];
     for (sender, addressee, subject, expected) in rows {
         let message = Message::new(sender, addressee, Step::Ready, subject, 7)?;
-        assert_eq!(rt; hall.forge(message), expected);
+        assert_same(&rt, hall.forge(message), expected);
     }
-    assert_eq!(rt; hall.waiting_for(0), 2);
+    assert_same(&rt, hall.waiting_for(0), 2);
     Ok(())
 }
 
@@ -197,19 +197,19 @@ fn delivers_in<C: Carrier>(
     left: u32,
 ) -> Result<(), Fail> {
     let mut hall = Hall::new(line_of(Plan::new(4, 1, 1, 0, 1)?)?, memory, carrier);
-    assert_eq!(rt; hall.deliver(0, 0), Err(Refusal::NothingWaiting));
+    assert_same(rt, hall.deliver(0, 0), Err(Refusal::NothingWaiting));
     for addressee in [0, 3] {
         hall.post(Message::new(1, addressee, Step::Ready, ITEM, 7)?)?;
     }
     let free = hall.free();
-    assert_eq!(rt; hall.deliver(0, 0), expected);
+    assert_same(rt, hall.deliver(0, 0), expected);
     if expected.is_err() {
-        assert_eq!(rt; hall.free(), free);
-        assert_eq!(rt; hall.waiting_for(0), 1);
-        assert_eq!(rt; hall.read::<Tag>(0, ITEM), Ok(Reading::Nothing));
+        assert_same(rt, hall.free(), free);
+        assert_same(rt, hall.waiting_for(0), 1);
+        assert_same(rt, hall.read::<Tag>(0, ITEM), Ok(Reading::Nothing));
     }
-    assert_eq!(rt; hall.deliver(3, 0), Ok(NOTHING));
-    assert_eq!(rt; hall.waiting_for(3), left);
+    assert_same(rt, hall.deliver(3, 0), Ok(NOTHING));
+    assert_same(rt, hall.waiting_for(3), left);
     Ok(())
 }
 
@@ -248,8 +248,8 @@ fn announces_in<C: Carrier>(
     free: u32,
 ) -> Result<(), Fail> {
     let mut hall = Hall::new(line_of(Plan::new(9, 2, 1, 0, 1)?)?, memory, carrier);
-    assert_eq!(rt; hall.announce(0, &Tag::new(5)?), expected);
-    assert_eq!(rt; hall.free(), free);
+    assert_same(rt, hall.announce(0, &Tag::new(5)?), expected);
+    assert_same(rt, hall.free(), free);
     Ok(())
 }
 

@@ -1,3 +1,4 @@
+use crate::tests::assert_same;
 use broadcast::{Reaction, receive};
 use memory::{BroadcastRecord, Memory};
 use plan::Plan;
@@ -48,7 +49,7 @@ fn one_process_goes_through_all_stages(rt: HostRuntime) -> Result<(), Fail> {
     ];
     for (step, expected) in rows {
         let message = Message::new(0, 0, step, ITEM, 7)?;
-        assert_eq!(rt; receive(&plan, &mut memory, 0, &message), expected);
+        assert_same(&rt, receive(&plan, &mut memory, 0, &message), expected);
     }
     Ok(())
 }
@@ -82,7 +83,7 @@ fn the_first_word_of_each_sender_counts(rt: HostRuntime) -> Result<(), Fail> {
     ];
     for (sender, step, body, expected) in rows {
         let message = Message::new(sender, 3, step, ITEM, body)?;
-        assert_eq!(rt; receive(&plan, &mut memory, 3, &message), expected);
+        assert_same(&rt, receive(&plan, &mut memory, 3, &message), expected);
     }
     Ok(())
 }
@@ -105,7 +106,11 @@ fn readies_carry_a_silent_process(rt: HostRuntime) -> Result<(), Fail> {
     ];
     for (process, sender, expected) in rows {
         let message = Message::new(sender, 0, Step::Ready, ITEM, 7)?;
-        assert_eq!(rt; receive(&plan, &mut memory, process, &message), expected);
+        assert_same(
+            &rt,
+            receive(&plan, &mut memory, process, &message),
+            expected,
+        );
     }
     Ok(())
 }
@@ -120,6 +125,6 @@ fn too_small_a_memory_hears_nothing(rt: HostRuntime) -> Result<(), Fail> {
         serials: &mut [0; 1],
     };
     let message = Message::new(0, 0, Step::Initial, ITEM, 7)?;
-    assert_eq!(rt; receive(&plan, &mut memory, 0, &message), NOTHING);
+    assert_same(&rt, receive(&plan, &mut memory, 0, &message), NOTHING);
     Ok(())
 }

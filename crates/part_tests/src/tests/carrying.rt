@@ -1,3 +1,4 @@
+use crate::tests::assert_same;
 use carrier::{Carrier, is_idle};
 use carriers::{Basket, Pile, Queue};
 use protocol::{Message, Refusal, Step, Subject};
@@ -29,7 +30,7 @@ fn empty<C: Carrier>(rt: &impl Abort, carrier: &mut C, process: u64) -> Result<(
     for _ in 0..carrier.waiting_for(process) {
         let _ = taken(carrier, process, 0)?;
     }
-    assert_eq!(rt; taken(carrier, process, 0), Err(Refusal::NothingWaiting));
+    assert_same(rt, taken(carrier, process, 0), Err(Refusal::NothingWaiting));
     Ok(())
 }
 
@@ -39,11 +40,11 @@ fn fills_and_empties<C: Carrier>(
     capacity: u32,
 ) -> Result<(), Fail> {
     assert!(rt; is_idle(carrier));
-    assert_eq!(rt; carrier.free(), capacity);
+    assert_same(rt, carrier.free(), capacity);
     post_all(carrier, capacity)?;
-    assert_eq!(rt; carrier.free(), 0);
-    assert_eq!(rt; carrier.post(message(0, 0)?), Err(Refusal::NoRoom));
-    assert_eq!(rt; carrier.waiting_for(u64::MAX), 0);
+    assert_same(rt, carrier.free(), 0);
+    assert_same(rt, carrier.post(message(0, 0)?), Err(Refusal::NoRoom));
+    assert_same(rt, carrier.waiting_for(u64::MAX), 0);
     empty(rt, carrier, 0)?;
     empty(rt, carrier, 1)?;
     assert!(rt; is_idle(carrier));
@@ -59,10 +60,10 @@ fn takes<C: Carrier>(
 ) -> Result<(), Fail> {
     post_all(carrier, 5)?;
     for body in bodies {
-        assert_eq!(rt; taken(carrier, 0, pick), Ok(body));
+        assert_same(rt, taken(carrier, 0, pick), Ok(body));
     }
-    assert_eq!(rt; taken(carrier, 0, pick), Err(Refusal::NothingWaiting));
-    assert_eq!(rt; carrier.waiting_for(1), 2);
+    assert_same(rt, taken(carrier, 0, pick), Err(Refusal::NothingWaiting));
+    assert_same(rt, carrier.waiting_for(1), 2);
     Ok(())
 }
 

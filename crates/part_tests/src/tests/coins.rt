@@ -1,5 +1,6 @@
 ghost use Rattle.std.specs.Prelude.{◌≡◌, true};
 
+use crate::tests::assert_same;
 use coin::{Coin, DealerStrip, OwnStrip, SharedCoin, WordCoin};
 use plan::Plan;
 use protocol::Side;
@@ -27,7 +28,7 @@ fn an_own_strip_has_bytes_for_each_process(rt: HostRuntime) -> Result<(), Fail> 
         (255, 255, 255, Side::Keep),
     ];
     for (process, case, phase, side) in rows {
-        assert_eq!(rt; coin.toss(process, case, phase), side);
+        assert_same(&rt, coin.toss(process, case, phase), side);
     }
     Ok(())
 }
@@ -46,7 +47,7 @@ fn a_dealer_strip_has_bytes_for_each_case(rt: HostRuntime) -> Result<(), Fail> {
         (255, 255, Side::Keep),
     ];
     for (case, phase, side) in rows {
-        assert_eq!(rt; coin.toss(7, case, phase), side);
+        assert_same(&rt, coin.toss(7, case, phase), side);
     }
     assert!(rt; shows_all(&coin, 255, 1, 2));
     Ok(())
@@ -65,7 +66,7 @@ fn a_word_is_read_from_its_lowest_bit(rt: HostRuntime) {
         (0, 65, Side::Release),
     ];
     for (case, phase, side) in rows {
-        assert_eq!(rt; coin.toss(7, case, phase), side);
+        assert_same(&rt, coin.toss(7, case, phase), side);
     }
     assert!(rt; shows_all(&coin, 255, 4, 1));
 }

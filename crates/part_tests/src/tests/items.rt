@@ -1,5 +1,6 @@
 ghost use Rattle.std.specs.Prelude.{◌≡◌, Some};
 
+use crate::tests::assert_same;
 use item::{Item, Record, Tag};
 use protocol::{Ballot, Refusal};
 use std::test::Fail;
@@ -25,9 +26,10 @@ fn record_fields_have_ranges(rt: HostRuntime) {
         ([1, 0, 0, 0, 65_536], false),
     ];
     for ([kind, colour, station, day, shelf], whole) in rows {
-        assert_eq!(rt;
+        assert_same(
+            &rt,
             Record::new(kind, colour, station, day, shelf).is_ok(),
-            whole
+            whole,
         );
     }
 }
@@ -35,13 +37,13 @@ fn record_fields_have_ranges(rt: HostRuntime) {
 #[test]
 fn a_record_is_packed_highest_first(rt: HostRuntime) -> Result<(), Fail> {
     let record = Record::new(1, 2, 3, 4, 5)?;
-    assert_eq!(rt; record.pack(), 0x0102_0003_0004_0005);
+    assert_same(&rt, record.pack(), 0x0102_0003_0004_0005);
     let read = read_back(&record).ok_or(Refusal::ValueOutOfRange)?;
-    assert_eq!(rt; read.kind(), 1);
-    assert_eq!(rt; read.colour(), 2);
-    assert_eq!(rt; read.station(), 3);
-    assert_eq!(rt; read.day(), 4);
-    assert_eq!(rt; read.shelf(), 5);
+    assert_same(&rt, read.kind(), 1);
+    assert_same(&rt, read.colour(), 2);
+    assert_same(&rt, read.station(), 3);
+    assert_same(&rt, read.day(), 4);
+    assert_same(&rt, read.shelf(), 5);
     Ok(())
 }
 
@@ -56,7 +58,7 @@ fn few_bodies_are_records(rt: HostRuntime) {
         (0xffff_ffff_ffff_ffff, false),
     ];
     for (body, whole) in rows {
-        assert_eq!(rt; Record::unpack(body).is_some(), whole);
+        assert_same(&rt, Record::unpack(body).is_some(), whole);
     }
 }
 
@@ -64,11 +66,11 @@ fn few_bodies_are_records(rt: HostRuntime) {
 fn tags_and_ballots_are_their_numbers(rt: HostRuntime) -> Result<(), Fail> {
     let rows = [(0, false), (1, true), (999_999, true), (1_000_000, false)];
     for (number, whole) in rows {
-        assert_eq!(rt; Tag::new(number).is_ok(), whole);
-        assert_eq!(rt; Tag::unpack(number).is_some(), whole);
+        assert_same(&rt, Tag::new(number).is_ok(), whole);
+        assert_same(&rt, Tag::unpack(number).is_some(), whole);
     }
-    assert_eq!(rt; Tag::new(999_999)?.pack(), 999_999);
-    assert_eq!(rt; Ballot::unpack(4).ok_or("not read")?.pack(), 4);
+    assert_same(&rt, Tag::new(999_999)?.pack(), 999_999);
+    assert_same(&rt, Ballot::unpack(4).ok_or("not read")?.pack(), 4);
     assert!(rt; Ballot::unpack(5).is_none());
     Ok(())
 }

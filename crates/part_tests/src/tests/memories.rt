@@ -1,4 +1,5 @@
-use memory::{BroadcastRecord, CaseRecord, Memory, Slip, Stage, case_place, place_of};
+use crate::tests::assert_same;
+use memory::{BroadcastRecord, CaseRecord, Memory, Place, Slip, Stage, case_place, place_of};
 use plan::Plan;
 use protocol::Subject;
 use std::test::Fail;
@@ -47,14 +48,17 @@ fn records_fill_the_largest_plan(rt: HostRuntime) -> Result<(), Fail> {
     ];
     for (process, subject, expected) in rows {
         let found = place_of(&plan, process, subject).map(|place| place.record);
-        assert_eq!(rt; found, expected);
+        assert_same(&rt, found, expected);
     }
-    let last = place_of(&plan, 15, ballot(15, 7, 48)).ok_or("no place")?;
-    assert_eq!(rt; last.echoes, 3_407_840);
-    assert_eq!(rt; last.readies, 3_407_856);
-    assert_eq!(rt; case_place(&plan, 15, 7), Some(127));
-    assert_eq!(rt; case_place(&plan, 15, 8), None);
-    assert_eq!(rt; case_place(&plan, 16, 0), None);
+    let last = Place {
+        record: 106_495,
+        echoes: 3_407_840,
+        readies: 3_407_856,
+    };
+    assert_same(&rt, place_of(&plan, 15, ballot(15, 7, 48)), Some(last));
+    assert_same(&rt, case_place(&plan, 15, 7), Some(127));
+    assert_same(&rt, case_place(&plan, 15, 8), None);
+    assert_same(&rt, case_place(&plan, 16, 0), None);
     Ok(())
 }
 
@@ -75,7 +79,7 @@ fn each_part_may_be_too_short(rt: HostRuntime) -> Result<(), Fail> {
             cases: &mut [OPENED; 1][0..cases.min(1)],
             serials: &mut [0; 1][0..serials.min(1)],
         };
-        assert_eq!(rt; memory.is_enough(&plan), expected);
+        assert_same(&rt, memory.is_enough(&plan), expected);
     }
     Ok(())
 }
@@ -90,19 +94,19 @@ fn clearing_ends_where_the_need_ends(rt: HostRuntime) -> Result<(), Fail> {
         serials: &mut [3; 2],
     };
     memory.clear(&plan);
-    assert_eq!(rt; memory.stage(3), Stage::Silent);
-    assert_eq!(rt; memory.stage(4), Stage::Readied);
+    assert_same(&rt, memory.stage(3), Stage::Silent);
+    assert_same(&rt, memory.stage(4), Stage::Readied);
     assert!(rt; memory.bodies.len() == 9);
-    assert_eq!(rt; memory.bodies[7], None);
-    assert_eq!(rt; memory.bodies[8], Some(7));
-    assert_eq!(rt; memory.case_record(0), CaseRecord::UNOPENED);
-    assert_eq!(rt; memory.case_record(1), OPENED);
-    assert_eq!(rt; memory.next_serial(0), 0);
-    assert_eq!(rt; memory.next_serial(1), 3);
+    assert_same(&rt, memory.bodies[7], None);
+    assert_same(&rt, memory.bodies[8], Some(7));
+    assert_same(&rt, memory.case_record(0), CaseRecord::UNOPENED);
+    assert_same(&rt, memory.case_record(1), OPENED);
+    assert_same(&rt, memory.next_serial(0), 0);
+    assert_same(&rt, memory.next_serial(1), 3);
     memory.set_next_serial(0, 1);
     memory.set_next_serial(2, 1);
     memory.set_case_record(0, OPENED);
-    assert_eq!(rt; memory.next_serial(0), 1);
-    assert_eq!(rt; memory.case_record(0), OPENED);
+    assert_same(&rt, memory.next_serial(0), 1);
+    assert_same(&rt, memory.case_record(0), OPENED);
     Ok(())
 }

@@ -1,3 +1,4 @@
+use crate::tests::assert_same;
 use protocol::{Ballot, Message, Refusal, Step, Subject};
 use std::test::Fail;
 
@@ -17,7 +18,7 @@ fn ends_are_below_sixteen(rt: HostRuntime) {
     ];
     for (sender, addressee, whole) in rows {
         let made = Message::new(sender, addressee, Step::Echo, subject, u64::MAX);
-        assert_eq!(rt; made.is_ok(), whole);
+        assert_same(&rt, made.is_ok(), whole);
     }
 }
 
@@ -25,17 +26,21 @@ fn ends_are_below_sixteen(rt: HostRuntime) {
 fn ballots_have_numbers(rt: HostRuntime) -> Result<(), Fail> {
     for number in 0..5 {
         let ballot = Ballot::try_from(number)?;
-        assert_eq!(rt; ballot.number(), number);
+        assert_same(&rt, ballot.number(), number);
     }
-    assert_eq!(rt; Ballot::try_from(5), Err(Refusal::ValueOutOfRange));
-    assert_eq!(rt; Ballot::try_from(u64::MAX), Err(Refusal::ValueOutOfRange));
+    assert_same(&rt, Ballot::try_from(5), Err(Refusal::ValueOutOfRange));
+    assert_same(
+        &rt,
+        Ballot::try_from(u64::MAX),
+        Err(Refusal::ValueOutOfRange),
+    );
     Ok(())
 }
 
 #[test]
 fn a_refusal_is_a_number_and_a_sentence(rt: HostRuntime) -> Result<(), Fail> {
-    assert_eq!(rt; Refusal::PlanOutOfRange.number(), 1);
-    assert_eq!(rt; Refusal::LineOutOfPlace.number(), 16);
+    assert_same(&rt, Refusal::PlanOutOfRange.number(), 1);
+    assert_same(&rt, Refusal::LineOutOfPlace.number(), 16);
     let text = Refusal::NoRoom.to_string(rt.alloc())?;
     assert!(rt; text.as_str() == "The carrier has too little room.");
     Ok(())

@@ -1,4 +1,5 @@
-use plan::{Draft, Line, Plan};
+use crate::tests::assert_same;
+use plan::{Draft, Line, Needs, Plan, Thresholds};
 use protocol::Refusal;
 use std::test::Fail;
 
@@ -19,17 +20,19 @@ fn plans_have_ranges(rt: HostRuntime) {
         ([1, 0, 0, 0, 17], false),
     ];
     for ([n, t, serials, cases, phases], whole) in rows {
-        assert_eq!(rt; Plan::new(n, t, serials, cases, phases).is_ok(), whole);
+        assert_same(&rt, Plan::new(n, t, serials, cases, phases).is_ok(), whole);
     }
 }
 
 #[test]
 fn the_largest_plan_needs_this_much(rt: HostRuntime) -> Result<(), Fail> {
-    let needs = Plan::new(16, 5, 32, 8, 16)?.needs();
-    assert_eq!(rt; needs.broadcast_records, 106_496);
-    assert_eq!(rt; needs.body_places, 3_407_872);
-    assert_eq!(rt; needs.case_records, 128);
-    assert_eq!(rt; needs.next_serials, 16);
+    let needs = Needs {
+        broadcast_records: 106_496,
+        body_places: 3_407_872,
+        case_records: 128,
+        next_serials: 16,
+    };
+    assert_same(&rt, Plan::new(16, 5, 32, 8, 16)?.needs(), needs);
     Ok(())
 }
 
@@ -42,10 +45,12 @@ fn the_sheet_is_read_by_n_and_t(rt: HostRuntime) -> Result<(), Fail> {
         (16, 5, 11, 6, 11),
     ];
     for (n, t, echo, ready, accept) in rows {
-        let found = Plan::new(n, t, 0, 0, 1)?.thresholds();
-        assert_eq!(rt; found.echo, echo);
-        assert_eq!(rt; found.ready, ready);
-        assert_eq!(rt; found.accept, accept);
+        let thresholds = Thresholds {
+            echo,
+            ready,
+            accept,
+        };
+        assert_same(&rt, Plan::new(n, t, 0, 0, 1)?.thresholds(), thresholds);
     }
     Ok(())
 }
@@ -53,11 +58,11 @@ fn the_sheet_is_read_by_n_and_t(rt: HostRuntime) -> Result<(), Fail> {
 #[test]
 fn t_processes_can_be_marked(rt: HostRuntime) -> Result<(), Fail> {
     let mut draft = Draft::new(Plan::new(7, 2, 0, 0, 1)?);
-    assert_eq!(rt; draft.mark_faulty(7), Err(Refusal::ProcessOutOfRange));
-    assert_eq!(rt; draft.mark_faulty(6), Ok(()));
-    assert_eq!(rt; draft.mark_faulty(6), Err(Refusal::MarkRefused));
-    assert_eq!(rt; draft.mark_faulty(0), Ok(()));
-    assert_eq!(rt; draft.mark_faulty(1), Err(Refusal::MarkRefused));
+    assert_same(&rt, draft.mark_faulty(7), Err(Refusal::ProcessOutOfRange));
+    assert_same(&rt, draft.mark_faulty(6), Ok(()));
+    assert_same(&rt, draft.mark_faulty(6), Err(Refusal::MarkRefused));
+    assert_same(&rt, draft.mark_faulty(0), Ok(()));
+    assert_same(&rt, draft.mark_faulty(1), Err(Refusal::MarkRefused));
     let line = Line::from(draft);
     assert!(rt; line.is_faulty(6) && line.is_faulty(0));
     assert!(rt; !line.is_faulty(1) && !line.is_faulty(7) && !line.is_faulty(u64::MAX));

@@ -1,4 +1,4 @@
-use crate::tests::accepted;
+use crate::tests::{accepted, assert_same};
 use cases::{Step, next_step};
 use memory::{CaseRecord, Memory};
 use plan::Plan;
@@ -36,10 +36,10 @@ fn one_process_decides_in_a_phase(rt: HostRuntime) -> Result<(), Fail> {
         decides: release,
         ..says(Ballot::Release)
     };
-    assert_eq!(rt; step_from(0)?, None);
-    assert_eq!(rt; step_from(1)?, Some(says(Ballot::Release)));
-    assert_eq!(rt; step_from(2)?, Some(says(Ballot::ProposeRelease)));
-    assert_eq!(rt; step_from(3)?, Some(decided));
-    assert_eq!(rt; step_from(4)?, None);
+    assert_same(&rt, step_from(0)?, None);
+    assert_same(&rt, step_from(1)?, Some(says(Ballot::Release)));
+    assert_same(&rt, step_from(2)?, Some(says(Ballot::ProposeRelease)));
+    assert_same(&rt, step_from(3)?, Some(decided));
+    assert_same(&rt, step_from(4)?, None);
     Ok(())
 }

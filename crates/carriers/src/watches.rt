@@ -1,3 +1,4 @@
+// A layer over any carrier that remembers which message was taken last.
 ghost use Rattle.std.specs.Prelude.{◌≡◌, None};
 
 use protocol::Message;
