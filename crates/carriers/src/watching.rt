@@ -12,7 +12,7 @@ impl<C: Carrier> Carrier for Watch<C> {
 
     ghost fits = { λ x. C.fits x.below };
 
-    ghost posting = { λ x m y. C.posting x.below m y.below };
+    ghost posting = { λ x m y. (C.posting x.below m y.below) × (y.last ≡ x.last) };
 
     ghost taking = { λ x process pick m y. (C.taking x.below process pick m y.below) × (y.last ≡ Some m) };
 
