@@ -84,11 +84,11 @@ impl Plan {
         ensures value { result ≡ thresholds_of self.now.n self.now.t }
         ensures sound { Sound self.now.n self.now.t result.echo result.ready result.accept }
     {
-        let [echo, ready, accept] = SHEET[self.row()];
+        let [echo, ready, accept] = &SHEET[self.row()];
         Thresholds {
-            echo,
-            ready,
-            accept,
+            echo: *echo,
+            ready: *ready,
+            accept: *accept,
         }
     }
 
