@@ -22,7 +22,13 @@ pub fn count(row: &RoundBallots) -> Tally
 fn count_of(row: &RoundBallots, ballot: Ballot) -> u8
     ensures { result ≡ count_by (is_ballot ballot) row.now }
 {
-    row.iter().filter(|cast| **cast == Some(ballot)).count() as u8
+    let mut count = 0;
+    for cast in row {
+        if *cast == Some(ballot) {
+            count += 1;
+        }
+    }
+    count
 }
 
 // Counting finds exactly the valid ballots, whatever was accepted. This function only carries the theorem.
