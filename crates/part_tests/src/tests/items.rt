@@ -1,7 +1,7 @@
 ghost use Rattle.std.specs.Prelude.{◌≡◌, Some};
 
 use crate::tests::assert_same;
-use item::{Item, Record, Tag};
+use item::{AnyBody, Item, Record, Tag};
 use protocol::{Ballot, Refusal};
 use std::test::Fail;
 
@@ -72,5 +72,15 @@ fn tags_and_ballots_are_their_numbers(rt: HostRuntime) -> Result<(), Fail> {
     assert_same(&rt, Tag::new(999_999)?.pack(), 999_999);
     assert_same(&rt, Ballot::unpack(4).ok_or("not read")?.pack(), 4);
     assert!(rt; Ballot::unpack(5).is_none());
+    Ok(())
+}
+
+#[test]
+fn any_body_is_itself(rt: HostRuntime) -> Result<(), Fail> {
+    for body in [0, 5, 1_000_000, u64::MAX] {
+        let read = AnyBody::unpack(body).ok_or("not read")?;
+        assert_same(&rt, read, AnyBody { body });
+        assert_same(&rt, read.pack(), body);
+    }
     Ok(())
 }
