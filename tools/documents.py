@@ -1,6 +1,7 @@
 #!/usr/bin/env python3
 """Holds the documents to the sources. It fails where one names a definition, as crate/specs/File.name, or a function, as
-crate::name, that is not there, and where docs/PROOFS.md lists other must-fail edits than there are. 'rows' prints that list."""
+crate::name, that is not there, where docs/PROOFS.md lists other must-fail edits than there are, and where a public function has
+a precondition, since they say that none has. 'rows' prints the list of edits."""
 import pathlib
 import re
 import sys
@@ -12,6 +13,7 @@ DEFINITION = re.compile(r"`([a-z_]+)/specs/([A-Z]\w*)((?:\.\w+)?)`")
 FUNCTION = re.compile(r"`([a-z_]+)((?:::\w+)+)`")
 BLOCK = re.compile(r"^(?:pub )?(?:impl|trait)\b(.*)\{$")
 FN = re.compile(r"^\s*(?:pub(?:\([a-z]+\))? )?(?:const )?fn (\w+)")
+PUBLIC = re.compile(r"^\s*pub (?:const )?fn\b")
 
 
 def has_word(text, word):
@@ -75,6 +77,20 @@ def edit_rows():
             yield f"| {crate.name} | " + "; ".join(f"`{w}`: {', '.join(e)}" for w, e in sorted(pairs.items())) + " |"
 
 
+def preconditions():
+    """The public functions that have a `requires`, those of public traits among them."""
+    for path in sorted(ROOT.glob("crates/*/src/**/*.rt")):
+        public, in_trait, name = False, False, None
+        for line in path.read_text().split("\n"):
+            if re.match(r"\S", line):
+                in_trait = line.startswith("pub trait ")
+            start = FN.match(line)
+            if start:
+                public, name = in_trait or bool(PUBLIC.match(line)), start.group(1)
+            if public and re.match(r"\s*requires\b", line):
+                yield f"{path.relative_to(ROOT)}: {name}"
+
+
 def main():
     rows = list(edit_rows())
     if sys.argv[1:] == ["rows"]:
@@ -83,12 +99,14 @@ def main():
     listed = (ROOT / PROOFS).read_text().split("| Crate | Function: its edits |\n|---|---|\n")[1].splitlines()
     failed = [f"{PROOFS} has not the row: {row}" for row in rows if row not in listed]
     failed += [f"{PROOFS} has a row for no edits: {row}" for row in listed if row not in rows]
+    failed += [f"a public function has a precondition: {name}" for name in preconditions()]
     failed += [f"{doc} names {name}, which is not there" for doc in NAMING for name in missing_names((ROOT / doc).read_text())]
     for line in failed:
         print(f"documents: {line}", file=sys.stderr)
     if failed:
         sys.exit(1)
-    print(f"documents: what {len(NAMING)} of them name is there, and the wrong edits of {len(rows)} crates are listed")
+    print(f"documents: what {len(NAMING)} of them name is there, the wrong edits of {len(rows)} crates are listed,", end=" ")
+    print("and no public function has a precondition")
 
 
 main()

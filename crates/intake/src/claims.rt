@@ -8,7 +8,7 @@ use line::{advance, open_case};
 use memory::case_place;
 use protocol::{Ballot, Refusal, Step, Subject};
 
-pub const CASE: u64 = 0;
+pub(crate) const CASE: u64 = 0;
 
 // The coin shows release in the first phase and keep in the second.
 const SIDES: u64 = 1;
@@ -55,7 +55,7 @@ const VISITS: [(u64, u64, u64); 9] = [
 ];
 
 impl<'a, R: Print, C: Carrier> Story<'a, R, C> {
-    pub fn settle(&mut self) -> anyhow::Result<()> {
+    pub(crate) fn settle(&mut self) -> anyhow::Result<()> {
         println!(self.rt; "the counters open a case about the violin")?;
         self.open_all()?;
         self.lie()?;
@@ -110,7 +110,7 @@ impl<'a, R: Print, C: Carrier> Story<'a, R, C> {
 
     // Delivers to the process, and then lets it advance.
     fn visit(&mut self, process: u64, pick: u64, most: u64) -> anyhow::Result<()> {
-        let taken = self.hand_over(process, most, |_| pick, |_, _| Ok(()))?;
+        let taken = self.hand_over(process, most, |_| pick)?;
         println!(self.rt; "counter {process} takes letters: {taken}")?;
         self.go_on(process)
     }
@@ -139,7 +139,7 @@ impl<'a, R: Print, C: Carrier> Story<'a, R, C> {
         Ok(())
     }
 
-    pub fn tell_decisions(&self) -> anyhow::Result<()> {
+    pub(crate) fn tell_decisions(&self) -> anyhow::Result<()> {
         for process in 0..FAULTY {
             let place = case_place(&self.line.plan(), process, CASE);
             let at = place.context("the plan has no such case")?;

@@ -1,13 +1,11 @@
 // Items, from their announcement to what each counter reads of them.
 use crate::story::{ALL, FAULTY, SECOND_OLDEST, Story};
-use crate::words::{Told, shelf_of};
-use anyhow::Context;
+use crate::words::Told;
 use carrier::Carrier;
 use item::{Item, Record};
 use line::announce;
 use protocol::{Refusal, Step, Subject};
 use reading::read;
-use rules::Delivered;
 
 // What the faulty process says to whom, of which item and with which shelf: originator and serial are the third and the
 // fourth number. Of its own first item it tells two stories and helps one of them on, of its second it tells three.
@@ -34,7 +32,7 @@ fn violin(shelf: u64) -> Result<Record, Refusal> {
 }
 
 impl<'a, R: Print, C: Carrier> Story<'a, R, C> {
-    pub fn spread(&mut self) -> anyhow::Result<()> {
+    pub(crate) fn spread(&mut self) -> anyhow::Result<()> {
         self.announce_record(0, violin(14)?)?;
         self.forge_all()?;
         self.deliver_all()
@@ -73,46 +71,22 @@ impl<'a, R: Print, C: Carrier> Story<'a, R, C> {
     fn deliver_all(&mut self) -> anyhow::Result<()> {
         println!(self.rt; "strange letters come first")?;
         for process in [1, 2] {
-            self.serve(process, 2, |_| SECOND_OLDEST)?;
+            self.hand_over(process, 2, |_| SECOND_OLDEST)?;
         }
         println!(self.rt; "counter 2 has to wait, the others get their oldest letter last")?;
         for process in [1, 0, 1, 0] {
-            self.serve(process, ALL, |_| SECOND_OLDEST)?;
+            self.hand_over(process, ALL, |_| SECOND_OLDEST)?;
         }
         println!(self.rt; "counter 2 gets its newest letters first")?;
-        self.serve(2, ALL, |waiting| u64::from(waiting).saturating_sub(1))?;
+        self.hand_over(2, ALL, |waiting| u64::from(waiting).saturating_sub(1))?;
         println!(self.rt; "all get what is left")?;
         for process in [1, 0, 2] {
-            self.serve(process, ALL, |_| SECOND_OLDEST)?;
+            self.hand_over(process, ALL, |_| SECOND_OLDEST)?;
         }
         Ok(())
     }
 
-    fn serve<P: Fn(u32) -> u64>(&mut self, process: u64, most: u64, pick: P) -> anyhow::Result<()>
-        requires { P.IsAlwaysCallable pick }
-    {
-        let _ = self.hand_over(process, most, pick, |story, delivered| {
-            story.tell_delivered(process, delivered)
-        })?;
-        Ok(())
-    }
-
-    // Of the message that was taken last.
-    fn tell_delivered(&self, process: u64, delivered: Delivered) -> anyhow::Result<()> {
-        let message = self.carrier.last().context("no message was taken")?;
-        let sender = message.sender();
-        let what = Told(message.step());
-        let about = Told(message.subject());
-        let shelf = shelf_of(message.body())?;
-        let sent = delivered.posted;
-        let entered = if delivered.accepted { "it" } else { "nothing" };
-        println!(self.rt;
-            "counter {process} takes {what} from counter {sender} about {about}, shelf {shelf}: sends {sent}, enters {entered}"
-        )?;
-        Ok(())
-    }
-
-    pub fn read_all(&self) -> anyhow::Result<()> {
+    pub(crate) fn read_all(&self) -> anyhow::Result<()> {
         for (originator, serial) in ITEMS {
             for process in 0..FAULTY {
                 self.read_record(process, Subject::Item { originator, serial })?;

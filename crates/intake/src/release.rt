@@ -8,7 +8,7 @@ use slips::{hand_over, issue};
 const CLERK: u64 = 0;
 
 impl<'a, R: Print, C: Carrier> Story<'a, R, C> {
-    pub fn release(&mut self) -> anyhow::Result<()> {
+    pub(crate) fn release(&mut self) -> anyhow::Result<()> {
         let slip = issue(&self.line, &mut self.memory, CLERK, CASE)?;
         let (slip, process, case) = slip.stub();
         hand_over(&self.line, &mut self.memory, slip).unwrap();

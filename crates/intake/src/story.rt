@@ -1,4 +1,6 @@
 // Who tells the story, in which order, and what its parts share.
+use crate::words::{Told, said};
+use anyhow::Context;
 use carrier::Carrier;
 use carriers::Watch;
 use line::{deliver, forge, open_line};
@@ -7,33 +9,33 @@ use plan::{Draft, Line, Plan};
 use protocol::{Message, Refusal, Step, Subject};
 use rules::Delivered;
 
-pub const FAULTY: u64 = 3;
+pub(crate) const FAULTY: u64 = 3;
 
 // More messages than any process gets.
-pub const ALL: u64 = 64;
+pub(crate) const ALL: u64 = 64;
 
 // Which of the messages for a process is taken. The second oldest is the oldest where it is alone.
-pub const OLDEST: u64 = 0;
+pub(crate) const OLDEST: u64 = 0;
 
-pub const SECOND_OLDEST: u64 = 1;
+pub(crate) const SECOND_OLDEST: u64 = 1;
 
 // What each turn is handed, and the runtime, to which each writes a line.
 #[derive(Drop)]
-pub struct Story<'a, R, C> {
-    pub rt: &'a R,
-    pub line: Line,
-    pub memory: Memory<'a>,
-    pub carrier: Watch<C>,
+pub(crate) struct Story<'a, R, C> {
+    pub(crate) rt: &'a R,
+    pub(crate) line: Line,
+    pub(crate) memory: Memory<'a>,
+    pub(crate) carrier: Watch<C>,
 }
 
-pub fn open_four<C: Carrier>(memory: &mut Memory, carrier: &C) -> Result<Line, Refusal> {
+pub(crate) fn open_four<C: Carrier>(memory: &mut Memory, carrier: &C) -> Result<Line, Refusal> {
     let mut draft = Draft::new(Plan::new(4, 1, 2, 1, 2)?);
     draft.mark_faulty(FAULTY)?;
     open_line(draft, memory, carrier).map_err(|(refusal, _draft)| refusal)
 }
 
 impl<'a, R: Print, C: Carrier> Story<'a, R, C> {
-    pub fn tell(&mut self) -> anyhow::Result<()> {
+    pub(crate) fn tell(&mut self) -> anyhow::Result<()> {
         println!(self.rt; "four counters, one of them strange: counter {FAULTY}")?;
         self.spread()?;
         self.count_waiting()?;
@@ -53,7 +55,7 @@ impl<'a, R: Print, C: Carrier> Story<'a, R, C> {
     }
 
     // The faulty process sends a message.
-    pub fn forge(
+    pub(crate) fn forge(
         &mut self,
         addressee: u64,
         step: Step,
@@ -64,20 +66,15 @@ impl<'a, R: Print, C: Carrier> Story<'a, R, C> {
         forge(&self.line, &self.memory, &mut self.carrier, message).map(|_| ())
     }
 
-    // Delivers to the process until nothing waits for it, but no more than `most` messages. Which one is picked goes by
-    // how many wait, and `told` tells of each. Answers how many there were.
-    pub fn hand_over<P, T>(
+    // Delivers to the process until nothing waits for it, but no more than `most` messages, and
+    // tells of each. Which one is picked goes by how many wait. Answers how many there were.
+    pub(crate) fn hand_over<P: Fn(u32) -> u64>(
         &mut self,
         process: u64,
         most: u64,
         pick: P,
-        told: T,
     ) -> anyhow::Result<u64>
-    where
-        P: Fn(u32) -> u64,
-        T: Fn(&Self, Delivered) -> anyhow::Result<()>,
-        requires pick { P.IsAlwaysCallable pick }
-        requires told { T.IsAlwaysCallable told }
+        requires { P.IsAlwaysCallable pick }
     {
         for taken in 0..most {
             let waiting = self.carrier.waiting_for(process);
@@ -92,8 +89,23 @@ impl<'a, R: Print, C: Carrier> Story<'a, R, C> {
                 process,
                 pick,
             )?;
-            told(self, delivered)?;
+            self.tell_delivered(process, delivered)?;
         }
         Ok(most)
+    }
+
+    // Of the message that was taken last.
+    fn tell_delivered(&self, process: u64, delivered: Delivered) -> anyhow::Result<()> {
+        let message = self.carrier.last().context("no message was taken")?;
+        let sender = message.sender();
+        let what = Told(message.step());
+        let about = Told(message.subject());
+        let value = Told(said(&message)?);
+        let sent = delivered.posted;
+        let entered = if delivered.accepted { "it" } else { "nothing" };
+        println!(self.rt;
+            "counter {process} takes {what} from counter {sender} about {about}, {value}: sends {sent}, enters {entered}"
+        )?;
+        Ok(())
     }
 }

@@ -2,13 +2,13 @@
 use anyhow::Context;
 use item::{Item, Record};
 use memory::Decision;
-use protocol::{Ballot, Side, Step, Subject};
+use protocol::{Ballot, Message, Side, Step, Subject};
 use reading::Reading;
 use std::fmt;
 
 // A value of another crate, as the counters call it.
 #[derive(Clone, Copy)]
-pub struct Told<T>(pub T);
+pub(crate) struct Told<T>(pub(crate) T);
 
 impl fmt::Display for Told<Subject> {
     fn fmt<W: fmt::Write>(&self, f: &mut fmt::Formatter<W>) -> fmt::Result {
@@ -91,8 +91,32 @@ impl fmt::Display for Told<Step> {
     }
 }
 
-// The records of this story differ in their shelves alone.
-pub fn shelf_of(body: u64) -> anyhow::Result<u64> {
-    let record = Record::unpack(body).context("no record has this body")?;
-    Ok(record.shelf())
+// What a message says: of an item's record its shelf, since the records of this story differ in
+// nothing else, or a ballot.
+#[derive(Clone, Copy)]
+pub(crate) enum Said {
+    Shelf(u64),
+    Ballot(Ballot),
+}
+
+impl fmt::Display for Told<Said> {
+    fn fmt<W: fmt::Write>(&self, f: &mut fmt::Formatter<W>) -> fmt::Result {
+        match self.0 {
+            Said::Shelf(shelf) => write!(f, "shelf {shelf}"),
+            Said::Ballot(ballot) => Told(ballot).fmt(f),
+        }
+    }
+}
+
+pub(crate) fn said(message: &Message) -> anyhow::Result<Said> {
+    match message.subject() {
+        Subject::Item { .. } => {
+            let record = Record::unpack(message.body()).context("no record has this body")?;
+            Ok(Said::Shelf(record.shelf()))
+        }
+        Subject::Ballot { .. } => {
+            let ballot = Ballot::unpack(message.body()).context("no ballot has this body")?;
+            Ok(Said::Ballot(ballot))
+        }
+    }
 }

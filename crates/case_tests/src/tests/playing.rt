@@ -12,65 +12,73 @@ use std::process::Abort;
 use std::test::Fail;
 
 // What a process votes. A faulty one does not.
-pub const KEEP: Option<u64> = Some(0);
+pub(crate) const KEEP: Option<u64> = Some(0);
 
-pub const RELEASE: Option<u64> = Some(1);
+pub(crate) const RELEASE: Option<u64> = Some(1);
 
-pub const FAULTY: Option<u64> = None;
+pub(crate) const FAULTY: Option<u64> = None;
 
 // A message of process 0 in case 0, of some round and step, with a body for each process.
 pub type Lie = (u64, Step, [u64; 4]);
 
 // How many processes may be faulty, what each process votes, and the side that is decided, where it is sure.
 #[derive(Clone, Copy)]
-pub struct Row<'v> {
-    pub t: u64,
-    pub votes: &'v [Option<u64>],
-    pub side: Option<Side>,
+pub(crate) struct Row<'v> {
+    pub(crate) t: u64,
+    pub(crate) votes: &'v [Option<u64>],
+    pub(crate) side: Option<Side>,
 }
 
 impl<'v> Row<'v> {
-    pub fn new(t: u64, votes: &'v [Option<u64>], side: Option<Side>) -> Row<'v> {
+    pub(crate) fn new(t: u64, votes: &'v [Option<u64>], side: Option<Side>) -> Row<'v> {
         Row { t, votes, side }
     }
 }
 
 // Ballots stand as numbers in the tests: a table cannot call `number`, and some bodies are no ballot's. The tests of
 // parts have this too.
-pub fn accepted(body: u64) -> BroadcastRecord {
+pub(crate) fn accepted(body: u64) -> BroadcastRecord {
     BroadcastRecord {
         stage: Stage::Accepted(body),
     }
 }
 
 // The line alone: a hall that is made here comes in a `Result`, which the borrow checker does not cover.
-pub fn opened<C: Carrier>(draft: Draft, memory: &mut Memory, carrier: &C) -> Result<Line, Refusal> {
+pub(crate) fn opened<C: Carrier>(
+    draft: Draft,
+    memory: &mut Memory,
+    carrier: &C,
+) -> Result<Line, Refusal> {
     open_line(draft, memory, carrier).map_err(|(refusal, _draft)| refusal)
 }
 
 // What the turns are handed, with the coin for the line's only case.
 #[derive(Drop)]
-pub struct Hall<'m, 'c, 'k, C, K> {
-    pub line: Line,
-    pub memory: Memory<'m>,
-    pub carrier: &'c mut C,
-    pub coin: &'k K,
+pub(crate) struct Hall<'m, 'c, 'k, C, K> {
+    pub(crate) line: Line,
+    pub(crate) memory: Memory<'m>,
+    pub(crate) carrier: &'c mut C,
+    pub(crate) coin: &'k K,
 }
 
 impl<'m, 'c, 'k, C: Carrier, K: Coin> Hall<'m, 'c, 'k, C, K> {
-    pub fn open_case(&mut self, process: u64, vote: u64) -> Result<u64, Refusal> {
+    pub(crate) fn open_case(&mut self, process: u64, vote: u64) -> Result<u64, Refusal> {
         open_case(&self.line, &mut self.memory, self.carrier, process, 0, vote)
     }
 
-    pub fn announce<I: Item>(&mut self, process: u64, value: &I) -> Result<Announced, Refusal> {
+    pub(crate) fn announce<I: Item>(
+        &mut self,
+        process: u64,
+        value: &I,
+    ) -> Result<Announced, Refusal> {
         announce(&self.line, &mut self.memory, self.carrier, process, value)
     }
 
-    pub fn deliver(&mut self, process: u64, pick: u64) -> Result<Delivered, Refusal> {
+    pub(crate) fn deliver(&mut self, process: u64, pick: u64) -> Result<Delivered, Refusal> {
         deliver(&self.line, &mut self.memory, self.carrier, process, pick)
     }
 
-    pub fn advance(&mut self, process: u64) -> Result<Advanced, Refusal> {
+    pub(crate) fn advance(&mut self, process: u64) -> Result<Advanced, Refusal> {
         advance(
             &self.line,
             &mut self.memory,
@@ -105,7 +113,7 @@ impl<'m, 'c, 'k, C: Carrier, K: Coin> Hall<'m, 'c, 'k, C, K> {
 
     // Every correct process has ended the case of two phases, and no two decided differently. Where a decision is told,
     // each decided so.
-    pub fn check_end(&self, rt: &impl Abort, told: Option<Decision>) {
+    pub(crate) fn check_end(&self, rt: &impl Abort, told: Option<Decision>) {
         let mut last: Option<Side> = None;
         for process in 0..self.line.plan().n() {
             if !self.line.is_faulty(process) {
@@ -132,7 +140,7 @@ fn draft(t: u64, votes: &[Option<u64>]) -> Result<Draft, Refusal> {
 }
 
 // A case of two phases, which `run` takes to its end. A side that is told is decided in phase 1.
-pub fn play<C, K, F>(
+pub(crate) fn play<C, K, F>(
     rt: &impl Abort,
     carrier: &mut C,
     coin: &K,

@@ -33,7 +33,7 @@ impl<'m, 'c, 'k, C: Carrier, K: Coin> Hall<'m, 'c, 'k, C, K> {
         Ok(any)
     }
 
-    pub fn deliver_all(&mut self) -> Result<(), Fail> {
+    pub(crate) fn deliver_all(&mut self) -> Result<(), Fail> {
         repeat(|| Ok(self.deliver_some(u32::MAX)?))
     }
 
@@ -51,7 +51,7 @@ impl<'m, 'c, 'k, C: Carrier, K: Coin> Hall<'m, 'c, 'k, C, K> {
     }
 
     // Everything is delivered before anybody advances.
-    pub fn settle(&mut self) -> Result<(), Fail> {
+    pub(crate) fn settle(&mut self) -> Result<(), Fail> {
         repeat(|| {
             self.deliver_all()?;
             Ok(self.advance_all()?)
@@ -59,7 +59,7 @@ impl<'m, 'c, 'k, C: Carrier, K: Coin> Hall<'m, 'c, 'k, C, K> {
     }
 
     // Each process is delivered one message, and then those advance that may.
-    pub fn hurry(&mut self) -> Result<(), Fail> {
+    pub(crate) fn hurry(&mut self) -> Result<(), Fail> {
         repeat(|| {
             let delivered = self.deliver_some(1)?;
             let advanced = self.advance_all()?;
