@@ -19,7 +19,7 @@ accepted_within plan h i s = cond (within plan s) (body_at plan h i s) None
 unfoldable pub ballots_at : Plan → Held → ℕ → ℕ → BallotMap
 ballots_at plan h i c o r = accepted_within plan h i (subject.Ballot o c (suc r))
 
--- whether the plan has process i, case c and round r, this one from 1, and the memory is large enough
+-- whether the plan has process i, case c and round r, counted from 1, and memory is large enough
 abbrev pub covers : Plan → Held → ℕ → ℕ → ℕ → Bool
 covers plan h i c r = within plan (subject.Ballot i c r) && enough plan h
 

@@ -22,7 +22,8 @@ after_first m x =
       «open» = false;
     }
 
--- after a second round: which side can have more than half of all n, and whether it can be that neither has
+-- after a second round: which side can have more than half of all n, and if it can be that
+-- neither has
 abbrev pub after_second : ℕ → ℕ → ByBallot ℕ → ByBallot Bool
 after_second n m x =
     let full = nat_le m (x.keep + x.release) in
@@ -76,6 +77,7 @@ pub record Exactly (V : ℕ → Type 0) (o : Option Ballot) : Type 0 where
   pub sound : (b : Ballot) → o ≡ Some b → V (ballot_number b)
   pub full : (b : ℕ) → V b → (c : Ballot) × (b ≡ ballot_number c) × (o ≡ Some c)
 
--- Counting finds the valid ballots, for all numbers of processes and all that may have been accepted.
+-- Counting finds the valid ballots, for all numbers of processes and all that may have been
+-- accepted.
 abbrev pub CountingFinds : Type 0
 CountingFinds = (n t : ℕ) (G : BallotMap) (r k : ℕ) → Exactly (Valid n t G r k) (valid_by_counting n t G r k)

@@ -49,7 +49,7 @@ fn after_first(m: u64, tally: Tally) -> Allowed
     }
 }
 
-// A proposal of the side that can have more than half of all n, or open if it can be that neither has.
+// A proposal of the side that can have more than half of all n; open if it can be that neither has.
 fn after_second(n: u64, m: u64, tally: Tally) -> Allowed
     ensures { result ≡ after_second n m tally }
 {

@@ -6,7 +6,7 @@ ghost use Rattle.ballots.specs.Votes.{CountingFinds};
 use crate::tallies::{RoundBallots, Tally};
 use protocol::Ballot;
 
-// How many a row has of each ballot.
+/// How many a row has of each ballot.
 pub fn count(row: &RoundBallots) -> Tally
     ensures { result ≡ counts 16 (ballot_in row.now) }
 {
@@ -31,7 +31,8 @@ fn count_of(row: &RoundBallots, ballot: Ballot) -> u8
     count
 }
 
-// Counting finds exactly the valid ballots, whatever was accepted. This function only carries the theorem.
+/// Counting finds exactly the valid ballots, whatever was accepted. The function does nothing: it
+/// carries the theorem.
 pub fn counting_is_exact()
     ensures { CountingFinds }
 {}

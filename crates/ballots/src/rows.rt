@@ -14,8 +14,8 @@ use plan::Plan;
 use protocol::{PROCESSES, Subject};
 use std::array;
 
-// The valid ballots of a round, the first one being round 1. There are none if the plan has not the process, the case
-// or the round, or if the memory is too small for the plan: a call has no precondition, and an empty row allows nothing.
+/// The ballots of a round, counted from 1, that are valid at a process. There are none if the
+/// plan has not the process, the case or the round, or if the memory is too small for the plan.
 pub fn valid_ballots(
     plan: &Plan,
     memory: &Memory,

@@ -3,10 +3,10 @@ ghost use Rattle.std.specs.Prelude.{◌≡◌};
 
 use protocol::{Ballot, PROCESSES};
 
-// The ballots of a round by originator, none where a process has no valid one.
+/// The ballots of a round by originator, none where a process has no valid one.
 pub type RoundBallots = [Option<Ballot>; PROCESSES as usize];
 
-// One thing of each ballot.
+/// One thing for each of the five ballots.
 #[derive(Clone, Copy, Debug, PartialEq, Eq)]
 pub struct ByBallot<T> {
     pub keep: T,
@@ -16,16 +16,16 @@ pub struct ByBallot<T> {
     pub open: T,
 }
 
-// How many of the sixteen places of a row have each ballot. The numbers are narrow, so that their sums fit.
+/// How many of the sixteen places of a row have each ballot, 0 to 16.
 pub type Tally = ByBallot<u8>;
 
-// Which ballots may stand in the round after.
+/// Which ballots are allowed in the round after.
 pub type Allowed = ByBallot<bool>;
 
 impl<T: Copy> ByBallot<T> {
     ghost use Rattle.ballots.specs.Tallies.{part};
 
-    // What it has of a ballot.
+    /// What it has for a ballot.
     pub fn get(self, ballot: Ballot) -> T
         ensures { result ≡ part self ballot }
     {

@@ -54,7 +54,8 @@ by_step limits m count s Initial = on_initial (m.sender == originator_of m.subje
 by_step limits m count s Echo = made_ready (nat_le limits.echo count) s
 by_step limits m count s Ready = on_ready (nat_le limits.ready count) (nat_le limits.accept count) m.body s
 
--- message m at a stage, where `count` echoes or readies of its body were heard; a process that has accepted does no more
+-- message m at a stage, where `count` echoes or readies of its body were heard; a process that has
+-- accepted does no more
 abbrev pub turn : Thresholds → Message → ℕ → Stage → Turned
 turn limits m count Silent = by_step limits m count Silent m.step
 turn limits m count Echoed = by_step limits m count Echoed m.step

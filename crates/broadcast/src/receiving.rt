@@ -10,7 +10,9 @@ use memory::{BroadcastRecord, Memory, Place, Stage, place_of};
 use plan::{Plan, Thresholds};
 use protocol::{Message, Step};
 
-// Nothing happens unless the plan has process, sender and subject and the memory is large enough.
+/// Lets a process hear a message, changes its record of the subject, and answers what it has to
+/// send. Nothing happens unless the plan has process, sender and subject and the memory is
+/// enough.
 pub fn receive(plan: &Plan, memory: &mut Memory, process: u64, message: &Message) -> Reaction
     ensures { outcome (held memory.new) result ≡ received plan.now process message.now (held memory.old) }
 {
@@ -47,7 +49,7 @@ fn listen(plan: &Plan, memory: &mut Memory, place: Place, message: &Message) -> 
     )
 }
 
-// Hears a message in a row that has a place for each sender, and counts the places that hold its body.
+// Hears a message in a row with a place for each sender, and counts the places that hold its body.
 fn hear(row: &mut [Option<u64>], message: &Message) -> usize
     requires { message.now.sender < length row.old }
     ensures heard { row.new ≡ hear message.now.sender message.now.body row.old }
@@ -57,7 +59,7 @@ fn hear(row: &mut [Option<u64>], message: &Message) -> usize
     count_saying(row, message.body())
 }
 
-// A loop over what was heard: docs/DECISIONS.md gives this shape.
+// How many places hold the body.
 fn count_saying(row: &[Option<u64>], body: u64) -> usize
     ensures { result ≡ count_by (says body) row.now }
 {
@@ -70,7 +72,7 @@ fn count_saying(row: &[Option<u64>], body: u64) -> usize
     count
 }
 
-// Goes on from a stage, where `count` is how many echoes or readies of the message's body were heard.
+// Goes on from a stage, where `count` echoes or readies of the message's body were heard.
 fn turn_stage(
     record: &mut BroadcastRecord,
     message: &Message,

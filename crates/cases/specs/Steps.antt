@@ -95,7 +95,7 @@ pub record Says (n t : ℕ) (G : BallotMap) (q : ℕ) (S : ℕ → Bool) (s : St
   pub decides : (v : Side) → s.decides ≡ Some v → (kind q ≡ Third) × Decides t (tally n G q S) v
   pub undecided : kind q ≡ Third → s.decides ≡ None → (v : Side) → tally n G q S (proposal v) ≤ 2 * t
 
--- o is how process i goes on in case c: by the lowest that have valid ballots, if there is any full set
+-- o is how process i goes on in case c: by the lowest with valid ballots, if there is any full set
 pub record FollowsBallots (plan : Plan) (h : Held) (i c : ℕ) (o : Option Step) : Type 0 where
   pub voting : covers plan h i c (round_at plan h i c) ≡ true → (k b : ℕ) → Valid plan.n plan.t (ballots_at plan h i c) (round_at plan h i c - 1) k b → voters plan h i c k ≡ true
   pub valid : (k : ℕ) → voters plan h i c k ≡ true → (b : ℕ) × Valid plan.n plan.t (ballots_at plan h i c) (round_at plan h i c - 1) k b

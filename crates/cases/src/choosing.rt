@@ -13,9 +13,10 @@ use plan::Plan;
 use protocol::Ballot;
 use std::array;
 
-// How a process goes on in a case from the round that it is in, by the valid ballots of the n - t lowest originators that
-// have one. There is nothing if it may not go on: the case is not opened or has ended, or too few ballots are valid, or
-// the plan has not the process or the case, or the memory is too small for the plan.
+/// How a process goes on in a case from the round that it is in, by the valid ballots of the
+/// n - t lowest originators that have one. There is nothing if it may not go on: the case is not
+/// opened or has ended, too few ballots are valid, the plan has not the process or the case, or
+/// the memory is too small for the plan.
 pub fn next_step(plan: &Plan, memory: &Memory, process: u64, case: u64) -> Option<Step>
     ensures value { result ≡ step_at plan.now (held memory.now) process case }
     ensures law { FollowsBallots plan.now (held memory.now) process case result }

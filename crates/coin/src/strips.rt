@@ -7,7 +7,8 @@ use crate::sides::side_of;
 use plan::Plan;
 use protocol::Side;
 
-// Has bytes for each process: for each of its cases one for each phase.
+/// A coin with bytes for each process: for each of its cases one for each phase. It shows release
+/// if the byte is odd, and keep if it is even, if the bytes end before it, or at phase 0.
 #[derive(Clone, Copy, Debug, PartialEq, Eq)]
 pub struct OwnStrip<'a> {
     bytes: &'a [u8],
@@ -15,14 +16,15 @@ pub struct OwnStrip<'a> {
     phases: u8,
 }
 
-// Has bytes for each case, one for each phase, and shows them to every process.
+/// A coin with bytes for each case, one for each phase, read alike for every process. It shows
+/// release if the byte is odd, and keep if it is even, if the bytes end before it, or at phase 0.
 #[derive(Clone, Copy, Debug, PartialEq, Eq)]
 pub struct DealerStrip<'a> {
     bytes: &'a [u8],
     phases: u8,
 }
 
-// The side for a phase, in one of the rows that the bytes stand in. It is keep at phase 0 and past the end of the bytes.
+// The side for a phase in a row of the bytes, keep at phase 0 and past their end.
 fn side_at(bytes: &[u8], row: u16, phases: u8, phase: u8) -> Side
     ensures { result ≡ row_side bytes.now row phases phase }
 {
@@ -34,6 +36,7 @@ fn side_at(bytes: &[u8], row: u16, phases: u8, phase: u8) -> Side
 }
 
 impl<'a> OwnStrip<'a> {
+    /// A strip for the plan's numbers of cases and phases. Bytes may be missing or left over.
     pub fn new(plan: Plan, bytes: &'a [u8]) -> OwnStrip<'a>
         ensures lent { result.bytes.now ≡ bytes.now }
         ensures cases { result.cases ≡ plan.cases }
@@ -50,6 +53,7 @@ impl<'a> OwnStrip<'a> {
 }
 
 impl<'a> DealerStrip<'a> {
+    /// A strip for the plan's number of phases. Bytes may be missing or left over.
     pub fn new(plan: Plan, bytes: &'a [u8]) -> DealerStrip<'a>
         ensures lent { result.bytes.now ≡ bytes.now }
         ensures phases { result.phases ≡ plan.phases }

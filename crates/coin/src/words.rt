@@ -1,4 +1,4 @@
-// A coin that reads its sides off the bits of a word, 16 to a case, from the lowest and round again: 1 means release.
+// A coin that reads its sides off the bits of a word.
 ghost use Rattle.std.specs.Prelude.{◌≡◌, refl};
 ghost use Rattle.coin.specs.Sides.{word_side};
 
@@ -6,12 +6,15 @@ use crate::coins::{Coin, SharedCoin};
 use crate::sides::side_of;
 use protocol::Side;
 
+/// A shared coin of 64 bits, from the lowest and round again: 16 for each case, one for each
+/// phase. It shows release if the bit is 1, and keep if it is 0 or at phase 0.
 #[derive(Clone, Copy, Debug, PartialEq, Eq)]
 pub struct WordCoin {
     word: u64,
 }
 
 impl WordCoin {
+    /// The coin of this word.
     pub fn new(word: u64) -> WordCoin
         ensures { result.word ≡ word }
     {

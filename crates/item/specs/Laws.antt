@@ -1,7 +1,7 @@
 -- What ties reading a body to packing a value. Assumes nothing.
 use Rattle.std.specs.Prelude.{◌≡◌, ℕ, ◌^◌, ◌<◌, Some, Option}
 
--- A body is read as a value exactly if it is what that value packs to. The bodies are the numbers of 64 bits.
+-- A body, a number of 64 bits, is read as a value exactly if it is what that value packs to.
 pub record Faithful {V : Type 0} (ok : V → Type 0) (packed : V → ℕ) (unpacked : ℕ → Option V) : Type 0 where
   pub within : (v : V) → ok v → packed v < 2 ^ 64
   pub full : (v : V) → ok v → unpacked (packed v) ≡ Some v

@@ -11,7 +11,8 @@ const LAST_COLOUR: u64 = 11;
 // Of the stations, of the days and of the shelves.
 const LAST: u64 = 0xffff;
 
-// The day is counted from 1 January 2000, which is day 0.
+/// An item with five fields, packed into one body. Every record is within the ranges of
+/// `Record::new`.
 #[derive(Clone, Copy, Debug, PartialEq, Eq)]
 pub struct Record {
     kind: u8,
@@ -30,7 +31,8 @@ pub struct Record {
 impl Record {
     ghost use Rattle.item.specs.Records.{recorded};
 
-    // Refused where a field is out of its range.
+    /// A record of a kind, 1 to 40, a colour, 0 to 11, and a station, a day and a shelf, 0 to
+    /// 65,535 each. Refused (9) where a field is out of its range.
     pub fn new(
         kind: u64,
         colour: u64,
@@ -55,30 +57,35 @@ impl Record {
         })
     }
 
+    /// The kind, 1 to 40.
     pub fn kind(&self) -> u64
         ensures { result ≡ self.now.kind }
     {
         u64::from(self.kind)
     }
 
+    /// The colour, 0 to 11.
     pub fn colour(&self) -> u64
         ensures { result ≡ self.now.colour }
     {
         u64::from(self.colour)
     }
 
+    /// The station, 0 to 65,535.
     pub fn station(&self) -> u64
         ensures { result ≡ self.now.station }
     {
         u64::from(self.station)
     }
 
+    /// The day, counted from 1 January 2000, which is 0, up to 65,535.
     pub fn day(&self) -> u64
         ensures { result ≡ self.now.day }
     {
         u64::from(self.day)
     }
 
+    /// The shelf, 0 to 65,535.
     pub fn shelf(&self) -> u64
         ensures { result ≡ self.now.shelf }
     {

@@ -6,6 +6,7 @@ use protocol::Refusal;
 
 const LAST_TAG: u64 = 999_999;
 
+/// An item of one number, from 1 to 999,999.
 #[derive(Clone, Copy, Debug, PartialEq, Eq)]
 pub struct Tag {
     number: u32,
@@ -16,7 +17,7 @@ pub struct Tag {
 impl Tag {
     ghost use Rattle.item.specs.Tags.{tagged};
 
-    // Refused unless the number is from 1 to 999,999.
+    /// The tag of a number. Refused (9) unless it is from 1 to 999,999.
     pub fn new(number: u64) -> Result<Tag, Refusal>
         ensures { result ≡ tagged number }
     {
@@ -28,6 +29,7 @@ impl Tag {
         })
     }
 
+    /// The number, 1 to 999,999.
     pub fn number(&self) -> u64
         ensures { result ≡ self.now.number }
     {

@@ -21,7 +21,8 @@ abbrev pub within : Plan → Subject → Bool
 within plan (Item i k) = nat_lt i plan.n && nat_lt k plan.serials
 within plan (Ballot i c r) = nat_lt i plan.n && (nat_lt c plan.cases && (nat_le 1 r && nat_le r (rounds plan)))
 
--- the number of a subject among those of its originator: the items, and then the rounds of case after case
+-- the number of a subject among those of its originator: the items, and then the rounds of case
+-- after case
 abbrev pub number : Plan → Subject → ℕ
 number plan (Item i k) = k
 number plan (Ballot i c r) = plan.serials + rounds plan * c + (r - 1)

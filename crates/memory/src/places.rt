@@ -1,11 +1,13 @@
-// Where memory keeps what one process knows of one subject. These are indices: the slices are lent, and written one at a time.
+// Where memory keeps what one process knows of one subject.
 pub mod slots;
 
+/// The places of one process for one subject, as indices into the slices of a memory.
 #[derive(Clone, Copy, Debug, PartialEq, Eq)]
 pub struct Place {
-    // Of the broadcast record.
+    /// Where its broadcast record is, in `broadcasts`.
     pub record: usize,
-    // Of the echo and of the ready of process 0. Those of the other senders follow.
+    /// Where the echo of sender 0 is, in `bodies`. Those of the other senders follow it.
     pub echoes: usize,
+    /// Where the ready of sender 0 is, in `bodies`. Those of the other senders follow it.
     pub readies: usize,
 }

@@ -3,19 +3,23 @@ ghost use Rattle.std.specs.Prelude.{◌≡◌};
 
 use protocol::Side;
 
-// How far a process is in the broadcast of one subject. An accepted broadcast has a body.
+/// How far a process is in the broadcast of one subject.
 #[derive(Clone, Copy, Debug, PartialEq, Eq)]
 pub enum Stage {
+    /// It has sent nothing.
     Silent,
+    /// It has sent an echo.
     Echoed,
+    /// It has sent an echo and a ready.
     Readied,
+    /// It has accepted this body, and does no more.
     Accepted(u64),
 }
 
 impl Stage {
     ghost use Rattle.memory.specs.Contents.{accepted_body};
 
-    // The body that was accepted, if one was.
+    /// The body that was accepted, if one was.
     pub fn accepted(self) -> Option<u64>
         ensures { result ≡ accepted_body self }
     {
@@ -26,45 +30,53 @@ impl Stage {
     }
 }
 
-// What a process keeps of one subject, beside the bodies that it heard. Of one field, yet a record: it is what a place holds.
+/// What a process keeps of one subject, beside the bodies that it heard.
 #[derive(Clone, Copy, Debug, PartialEq, Eq)]
 pub struct BroadcastRecord {
     pub stage: Stage,
 }
 
 impl BroadcastRecord {
-    // What a cleared place holds.
+    /// What a cleared place holds.
     pub const SILENT: BroadcastRecord = BroadcastRecord {
         stage: Stage::Silent,
     };
 }
 
-// Where the release slip of a case is.
+/// Where the release slip of a process is for a case.
 #[derive(Clone, Copy, Debug, PartialEq, Eq)]
 pub enum Slip {
+    /// None was issued, or it was put back.
     Absent,
+    /// It is issued and not given back.
     Out,
+    /// It was used. No other follows.
     HandedOver,
 }
 
-// How a case was decided, and in which phase.
+/// How a process decided a case.
 #[derive(Clone, Copy, Debug, PartialEq, Eq)]
 pub struct Decision {
+    /// The side that was decided.
     pub side: Side,
+    /// The phase in which it was, counted from 1.
     pub phase: u8,
 }
 
-// What a process keeps of one case. In round 0 the case is not opened, above its last round it has ended: numbers, since a memory
-// that is handed in may hold any.
+/// What a process keeps of one case.
 #[derive(Clone, Copy, Debug, PartialEq, Eq)]
 pub struct CaseRecord {
+    /// The round that it is in, counted from 1. At 0 the case is not opened; above the plan's
+    /// last round it has ended.
     pub round: u8,
+    /// Its first decision, if it has decided.
     pub decision: Option<Decision>,
+    /// Where its release slip is.
     pub slip: Slip,
 }
 
 impl CaseRecord {
-    // What a cleared place holds.
+    /// What a cleared place holds.
     pub const UNOPENED: CaseRecord = CaseRecord {
         round: 0,
         decision: None,

@@ -4,7 +4,8 @@ use Rattle.protocol.specs.Counting.{below}
 use Rattle.plan.specs.Marks.{marked}
 use Rattle.plan.specs.Kinds.{Draft, Line}
 
--- the line has the plan and the marks of the draft, and so no more than t of its processes are marked
+-- the line has the plan and the marks of the draft, and so no more than t of its processes are
+-- marked
 pub record Becomes (draft : Draft) (line : Line) : Type 0 where
   pub plan : line.plan ≡ draft.plan
   pub marks : line.marks ≡ draft.marks

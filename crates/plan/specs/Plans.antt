@@ -6,7 +6,8 @@ use Rattle.protocol.specs.declared.refusals.Refusal.TheVariants.{PlanOutOfRange}
 use Rattle.plan.specs.declared.plans.Needs.{Needs}
 use Rattle.plan.specs.declared.plans.Plan.{Plan}
 
--- 1 to 16 processes, fewer than a third of them faulty, up to 32 serials and 8 cases, 1 to 16 phases
+-- 1 to 16 processes, fewer than a third of them faulty, up to 32 serials and 8 cases, 1 to 16
+-- phases
 abbrev pub legal : ℕ → ℕ → ℕ → ℕ → ℕ → Bool
 legal n t serials cases phases =
     (nat_le 1 n && nat_le n 16) && (nat_lt (3 * t) n && (nat_le serials 32 && (nat_le cases 8 && (nat_le 1 phases && nat_le phases 16))))
@@ -38,7 +39,8 @@ module _ (n t serials cases phases : ℕ) where
   unfoldable pub planned : Result Plan Refusal
   planned = made_if (legal n t serials cases phases) refl
 
--- how many rounds a case has, and how many subjects an originator: an item for each serial, a ballot for each round of each case
+-- how many rounds a case has, and how many subjects an originator: an item for each serial, a
+-- ballot for each round of each case
 abbrev pub rounds : Plan → ℕ
 rounds plan = 3 * plan.phases
 

@@ -7,7 +7,8 @@ use std::marker::PhantomData;
 
 pub mod lines;
 
-// The faulty processes are marked, the others are correct. The state says whether more can be marked.
+/// A plan whose faulty processes are marked, at most t of them. All others are correct. The state,
+/// `Drafted` or `Opened`, says whether more can be marked.
 #[derive(Drop)]
 pub struct Marked<S> {
     plan: Plan,
@@ -17,29 +18,31 @@ pub struct Marked<S> {
     ghost inside: { marks < 2 ^ plan.n },
 }
 
-// Before the opening.
+/// The state before the opening.
 #[derive(Drop)]
 pub struct Drafted;
 
-// From the opening on.
+/// The state from the opening on.
 #[derive(Drop)]
 pub struct Opened;
 
-// Here processes are marked faulty. Opening uses the draft up.
+/// Where processes can still be marked. Opening uses the draft up.
 pub type Draft = Marked<Drafted>;
 
-// What was a draft when it was opened. Nothing can be marked any more.
+/// What opening makes of a draft: the same plan and marks, which stay as they are.
 pub type Line = Marked<Opened>;
 
 impl<S> Marked<S> {
     ghost use Rattle.plan.specs.Marks.{marked};
 
+    /// The plan that it was made for.
     pub fn plan(&self) -> Plan
         ensures { result ≡ self.now.plan }
     {
         self.plan
     }
 
+    /// Whether the process is marked. One outside the plan is not.
     pub fn is_faulty(&self, process: u64) -> bool
         ensures value { result ≡ marked self.now.marks process }
         ensures within { result ≡ true → process < self.now.plan.n }
@@ -51,7 +54,7 @@ impl<S> Marked<S> {
 impl Marked<Drafted> {
     ghost use Rattle.plan.specs.Marks.{mark_answer, marks_after, Adds};
 
-    // Nothing is marked yet.
+    /// A draft with no marks.
     pub fn new(plan: Plan) -> Draft
         ensures same { result.plan ≡ plan }
         ensures none { result.marks ≡ 0 }
@@ -63,7 +66,8 @@ impl Marked<Drafted> {
         }
     }
 
-    // Refused for a process outside the plan, for one that is marked already, and past t marks.
+    /// Marks one process more. Refused if there is no such process (4), and if it is marked
+    /// already or t marks stand (5).
     pub fn mark_faulty(&mut self, process: u64) -> Result<(), Refusal>
         ensures answer { result ≡ mark_answer self.old.plan self.old.marks process }
         ensures same { self.new.plan ≡ self.old.plan }

@@ -11,7 +11,8 @@ const MOST_CASES: u64 = 8;
 
 const MOST_PHASES: u64 = 16;
 
-// How many processes there are, how many of them may be faulty, and how much they may say.
+/// How many processes a line has, how many of them may be faulty, and how much they may say.
+/// Every plan is within the ranges of `Plan::new`.
 #[derive(Clone, Copy, Debug, PartialEq, Eq)]
 pub struct Plan {
     n: u8,
@@ -27,27 +28,36 @@ pub struct Plan {
     ghost last: { phases ≤ 16 },
 }
 
-// How long the slices of a line's memory have to be.
+/// How many places each part of a line's memory has to have.
 #[derive(Clone, Copy, Debug, PartialEq, Eq)]
 pub struct Needs {
+    /// n * n * (serials + rounds * cases), at most 106,496.
     pub broadcast_records: usize,
+    /// 2n for each broadcast record, at most 3,407,872.
     pub body_places: usize,
+    /// n * cases, at most 128.
     pub case_records: usize,
+    /// n, at most 16.
     pub next_serials: usize,
 }
 
-// How many echoes of a body make a process ready, how many readies do, and how many readies make it accept.
+/// How many messages with the same body, each from another sender, bring about a step.
 #[derive(Clone, Copy, Debug, PartialEq, Eq)]
 pub struct Thresholds {
+    /// Echoes that make a process send a ready.
     pub echo: u8,
+    /// Readies that make a process send a ready.
     pub ready: u8,
+    /// Readies that make a process accept.
     pub accept: u8,
 }
 
 impl Plan {
     ghost use Rattle.plan.specs.Plans.{planned, rounds, quorum, needs_of};
 
-    // Fewer than a third of the processes may be faulty.
+    /// A plan of n processes, 1 to 16, of which fewer than a third may be faulty: 3t < n. Each
+    /// may announce up to 32 items. There are up to 8 cases, each of 1 to 16 phases. Refused (1)
+    /// outside these ranges.
     pub fn new(n: u64, t: u64, serials: u64, cases: u64, phases: u64) -> Result<Plan, Refusal>
         ensures { result ≡ planned n t serials cases phases }
     {
@@ -66,55 +76,58 @@ impl Plan {
         })
     }
 
-    // The number of processes.
+    /// The number of processes, 1 to 16.
     pub fn n(&self) -> u64
         ensures { result ≡ self.now.n }
     {
         u64::from(self.n)
     }
 
-    // How many of them may be faulty.
+    /// How many of the processes may be faulty, 0 to 5.
     pub fn t(&self) -> u64
         ensures { result ≡ self.now.t }
     {
         u64::from(self.t)
     }
 
-    // How many items each process may announce.
+    /// How many items each process may announce, 0 to 32.
     pub fn serials(&self) -> u64
         ensures { result ≡ self.now.serials }
     {
         u64::from(self.serials)
     }
 
+    /// How many cases there are, 0 to 8.
     pub fn cases(&self) -> u64
         ensures { result ≡ self.now.cases }
     {
         u64::from(self.cases)
     }
 
-    // How many phases of three rounds a case has.
+    /// How many phases of three rounds a case has, 1 to 16.
     pub fn phases(&self) -> u64
         ensures { result ≡ self.now.phases }
     {
         u64::from(self.phases)
     }
 
-    // How many rounds a case has.
+    /// How many rounds a case has, 3 to 48.
     pub fn rounds(&self) -> u64
         ensures { result ≡ rounds self.now }
     {
         3 * self.phases()
     }
 
-    // How many processes can be waited for, since as many as may be faulty may stay silent.
+    /// n - t: how many processes can be waited for, since t may stay silent.
     pub fn quorum(&self) -> u64
         ensures { result ≡ quorum self.now }
     {
         self.n() - self.t()
     }
 
-    // A process has a broadcast record for each subject of each originator, and in it a place for each sender's echo and ready.
+    /// The places that a line of this plan needs. Each process has a broadcast record for each
+    /// subject of each originator, and to each record belong a place for every sender's echo and
+    /// one for its ready.
     pub fn needs(&self) -> Needs
         ensures { result ≡ needs_of self.now }
     {

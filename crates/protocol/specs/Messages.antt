@@ -12,7 +12,8 @@ abbrev pub originator_of : Subject → ℕ
 originator_of (Item i s) = i
 originator_of (Ballot i c r) = i
 
--- The message with these parts, for ends below 16. The remainders make it a message for any numbers.
+-- The message with these parts, for ends below 16. The remainders make it a message for any
+-- numbers.
 unfoldable pub message : ℕ → ℕ → Step → Subject → ℕ → Message
 message from to step subject body =
     record {

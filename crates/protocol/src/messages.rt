@@ -3,24 +3,29 @@ ghost use Rattle.std.specs.Prelude.{◌≡◌, ◌<◌};
 
 use crate::refusals::Refusal;
 
-// Processes are numbered below this, whatever the plan.
+/// The most processes a line can have: they are numbered from 0, below this.
 pub const PROCESSES: u64 = 16;
 
-// Where a broadcast stands for the sender: it begins it, repeats what was begun, or commits to it.
+/// What a message does for its broadcast.
 #[derive(Clone, Copy, Debug, PartialEq, Eq)]
 pub enum Step {
+    /// Begins it: the originator tells its body.
     Initial,
+    /// Repeats a body that was told.
     Echo,
+    /// Says that enough processes repeated or committed to this body, and commits to it.
     Ready,
 }
 
-// What a broadcast is of: an announced item, or the ballot of one round of a case. A subject may lie outside every plan.
+/// What a message is about. Its numbers are any of 64 bits, so it may lie outside every plan.
 #[derive(Clone, Copy, Debug, PartialEq, Eq)]
 pub enum Subject {
+    /// An item that the originator announces, the serial counting its items from 0.
     Item {
         originator: u64,
         serial: u64,
     },
+    /// The originator's ballot in a case, cases counted from 0, in a round counted from 1.
     Ballot {
         originator: u64,
         case: u64,
@@ -31,7 +36,7 @@ pub enum Subject {
 impl Subject {
     ghost use Rattle.protocol.specs.Messages.{originator_of};
 
-    // Whose broadcast it is.
+    /// The process whose broadcast it is.
     pub fn originator(&self) -> u64
         ensures { result ≡ originator_of self.now }
     {
@@ -42,7 +47,7 @@ impl Subject {
     }
 }
 
-// One message from a process to another or to itself.
+/// One message from a process to another or to itself. Both are below 16, whatever the plan.
 #[derive(Clone, Copy, Debug, PartialEq, Eq)]
 pub struct Message {
     sender: u8,
@@ -57,7 +62,7 @@ pub struct Message {
 impl Message {
     ghost use Rattle.protocol.specs.Messages.{made};
 
-    // Fills places that are lent to a carrier. It says nothing, and no carrier gives it out.
+    /// What places lent to a carrier are filled with. It is no message that waits there.
     pub const BLANK: Message = Message {
         sender: 0,
         addressee: 0,
@@ -69,7 +74,7 @@ impl Message {
         body: 0,
     };
 
-    // Refused unless both ends are below 16.
+    /// A message with these parts. Refused (4) if the sender or the addressee is 16 or above.
     pub fn new(
         sender: u64,
         addressee: u64,
@@ -91,30 +96,35 @@ impl Message {
         })
     }
 
+    /// The process that the message says it is from, below 16.
     pub fn sender(&self) -> u64
         ensures { result ≡ self.now.sender }
     {
         u64::from(self.sender)
     }
 
+    /// The process that the message is for, below 16.
     pub fn addressee(&self) -> u64
         ensures { result ≡ self.now.addressee }
     {
         u64::from(self.addressee)
     }
 
+    /// Whether it is an initial, an echo or a ready.
     pub fn step(&self) -> Step
         ensures { result ≡ self.now.step }
     {
         self.step
     }
 
+    /// What it is about.
     pub fn subject(&self) -> Subject
         ensures { result ≡ self.now.subject }
     {
         self.subject
     }
 
+    /// The number that it carries: what an item or a ballot was packed to, or any other.
     pub fn body(&self) -> u64
         ensures { result ≡ self.now.body }
     {

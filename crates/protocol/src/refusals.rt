@@ -5,28 +5,45 @@ ghost use Rattle.protocol.specs.Refusals.{refusal_number, sentence};
 use std::error::Error;
 use std::fmt;
 
+/// Why a call did nothing. Where several reasons fit, the one with the lowest number is returned.
 #[derive(Clone, Copy, Debug, PartialEq, Eq)]
 pub enum Refusal {
+    /// A number of the plan is out of its range, or t is not below a third of n.
     PlanOutOfRange = 1,
+    /// A part of the memory is shorter than the plan needs, or a script has more than 4,096 bytes.
     MemoryTooSmall = 2,
+    /// At the opening a message already waits in the carrier.
     MessageWaiting = 3,
+    /// The process is not below n; where a message is made, not below 16.
     ProcessOutOfRange = 4,
+    /// The process is marked already, or t marks stand.
     MarkRefused = 5,
+    /// A correct process is to forge, or a faulty one to do what only correct ones do.
     WrongRole = 6,
+    /// The plan has no such subject or case.
     SubjectOutOfPlan = 7,
+    /// No message waits for the process.
     NothingWaiting = 8,
+    /// A tag, a field of a record, a vote or a ballot's number is out of its range.
     ValueOutOfRange = 9,
+    /// The process has announced as many items as the plan has serials.
     SerialsUsedUp = 10,
+    /// The process has opened the case before.
     CaseAlreadyOpened = 11,
+    /// The case is not opened or has ended, or fewer than n - t ballots of its round are valid.
     MayNotAdvance = 12,
+    /// The carrier has less room than the call may need.
     NoRoom = 13,
+    /// No slip may be issued for the case, or the slip that is given back is not out.
     SlipRefused = 14,
+    /// A line of a script cannot be read.
     NotRead = 15,
+    /// A turn of a script comes before a line is opened, or a second line is opened.
     LineOutOfPlace = 16,
 }
 
 impl Refusal {
-    // Its number, from 1 to 16. Where several refusals fit a call, the lowest number is returned.
+    /// Its number, from 1 to 16.
     pub fn number(self) -> u8
         ensures { result ≡ refusal_number self }
     {

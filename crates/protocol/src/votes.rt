@@ -5,24 +5,29 @@ ghost use Rattle.protocol.specs.Numbers.{ballot_number, FromNumber, vote, propos
 
 use crate::refusals::Refusal;
 
-// How a case may be decided.
+/// How a case may be decided.
 #[derive(Clone, Copy, Debug, PartialEq, Eq)]
 pub enum Side {
     Keep,
     Release,
 }
 
-// What a process says in a round: a vote for a side, a proposal of one, or neither.
+/// What a process says in a round of a case. Its number, 0 to 4, is the body of its messages.
 #[derive(Clone, Copy, Debug, PartialEq, Eq)]
 pub enum Ballot {
+    /// A vote to keep.
     Keep = 0,
+    /// A vote to release.
     Release = 1,
+    /// In a third round: more than half of all processes voted to keep.
     ProposeKeep = 2,
+    /// In a third round: more than half of all processes voted to release.
     ProposeRelease = 3,
+    /// In a third round: neither side is proposed.
     Open = 4,
 }
 
-// The place of a round in its phase.
+/// The place of a round in its phase of three.
 #[derive(Clone, Copy, Debug, PartialEq, Eq)]
 pub enum Kind {
     First,
@@ -31,14 +36,14 @@ pub enum Kind {
 }
 
 impl Ballot {
-    // A method for each number here: it is read by its name, and a `From` would say the same.
+    /// The ballot's number, 0 to 4.
     pub fn number(self) -> u64
         ensures { result ≡ ballot_number self }
     {
         self as u64
     }
 
-    // The ballot that votes for a side.
+    /// The ballot that votes for a side.
     pub fn vote(side: Side) -> Ballot
         ensures { result ≡ vote side }
     {
@@ -48,7 +53,7 @@ impl Ballot {
         }
     }
 
-    // The ballot that proposes a side.
+    /// The ballot that proposes a side.
     pub fn proposal(side: Side) -> Ballot
         ensures { result ≡ proposal side }
     {
@@ -60,7 +65,7 @@ impl Ballot {
 }
 
 impl Kind {
-    // Rounds count from 0 here.
+    /// Which round of its phase a round is. Rounds count from 0 here, so that 0 is a first one.
     pub fn of_round(round: u64) -> Kind
         ensures { result ≡ kind round }
     {
@@ -72,7 +77,7 @@ impl Kind {
     }
 }
 
-// The ballot of that number, if there is one.
+/// The ballot of a number. Refused (9) above 4.
 impl TryFrom<u64> for Ballot {
     type Error = Refusal;
 

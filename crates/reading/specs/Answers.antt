@@ -41,7 +41,8 @@ unless_refused (Some e) x = Err e
 abbrev pub answer : {V : Type 0} → (ℕ → Option V) → Line → Held → ℕ → Subject → Result (Reading V) Refusal
 answer unpacked line h i s = unless_refused (read_refusal line h i s) (reading_of unpacked (body_at line.plan h i s))
 
--- Where a run leads to this memory, and tells that the correct process i accepted body b for the subject, this body is read.
+-- Where a run leads to this memory, and tells that the correct process i accepted body b for the
+-- subject, this body is read.
 abbrev pub ReadsAccepted : {V : Type 0} → (ℕ → Option V) → Line → Held → ℕ → Subject → Result (Reading V) Refusal → Type 0
 ReadsAccepted unpacked line h i s r =
     (capacity : ℕ) (coin : Coin) (es : List Event) (ws : List Message) (b : ℕ) → Run line capacity coin es h ws → Correct line i → Accepted es i s b → r ≡ Ok (reading_of unpacked (Some b))

@@ -15,7 +15,9 @@ pub mod readings;
 
 pub use readings::Reading;
 
-// What a correct process has accepted for a subject, as a value.
+/// What a correct process has accepted for a subject, as a value. Refused if the memory is too
+/// small (2), there is no such process (4), it is faulty (6), or the plan has not the subject
+/// (7).
 pub fn read<I: Item>(
     line: &Line,
     memory: &Memory,

@@ -73,7 +73,8 @@ module _ (line : Line) (h : Held) (i c : ℕ) where
   Issued (Ok slip) after = IsIssued slip after
   Issued (Err e) after = SlipCallRefused issue_refusal e after
 
-  -- A slip says the truth: whatever run led to this memory, it tells that the process decided release in the case.
+  -- A slip says the truth: whatever run led to this memory, it tells that the process decided
+  -- release in the case.
   abbrev pub Truthful : Result ReleaseSlip Refusal → Type 0
   Truthful (Ok slip) = (capacity : ℕ) (coin : Coin) (es : List Event) (ws : List Message) → Run line capacity coin es h ws → (k : ℕ) × Decided es i c Release k
   Truthful (Err e) = Unit {0}

@@ -9,8 +9,9 @@ use memory::{CaseRecord, Memory, Slip};
 use plan::Line;
 use protocol::Refusal;
 
-// Two calls and not one with a state: they are what a clerk does. The item was handed over for the slip. No other slip can be issued
-// for the case.
+/// Ends a slip for which the item was handed over. No other can be issued for the case. Refused,
+/// with the slip given back, if the memory is too small (2), there is no such process (4), the
+/// plan has not the case (7), or the slip is not out on this line (14).
 pub fn hand_over(
     line: &Line,
     memory: &mut Memory,
@@ -21,7 +22,7 @@ pub fn hand_over(
     give_back(line, memory, slip, Slip::HandedOver)
 }
 
-// The slip was not used. Another one can be issued.
+/// Ends a slip that was not used, so that another can be issued. Refused as `hand_over` is.
 pub fn put_back(
     line: &Line,
     memory: &mut Memory,
@@ -32,8 +33,7 @@ pub fn put_back(
     give_back(line, memory, slip, Slip::Absent)
 }
 
-// Ends the slip and leaves its state. A refusal gives the slip back, in a pair: a slip is linear, so that no conversion could drop it,
-// and it has to be taken out by a pattern.
+// Ends the slip and leaves its state. A refusal gives the slip back.
 fn give_back(
     line: &Line,
     memory: &mut Memory,

@@ -9,7 +9,9 @@ use memory::{CaseRecord, Memory, Slip};
 use plan::Line;
 use protocol::{Refusal, Side};
 
-// A correct process that decided release may issue a slip, if none is out or was handed over.
+/// Issues the slip of a correct process that decided release. Refused if the memory is too small
+/// (2), there is no such process (4), it is faulty (6), the plan has not the case (7), the
+/// process did not decide release, or its slip is out or was handed over (14).
 pub fn issue(
     line: &Line,
     memory: &mut Memory,

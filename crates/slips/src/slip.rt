@@ -1,15 +1,15 @@
-// The slip itself. The calls that issue it and take it back stand in other files, since their clauses cite definitions that name it.
+// The slip itself.
 ghost use Rattle.std.specs.Prelude.{◌≡◌};
 
-// Says that a process decided release in a case. It cannot be copied, and its holder cannot end before it was handed
-// over or put back: it is let go by no other call.
+/// The leave to release what a case is about: a process decided so. It cannot be copied, and it
+/// ends only by `hand_over` or `put_back`: its holder cannot end before.
 pub struct ReleaseSlip {
     pub(crate) process: u64,
     pub(crate) case: u64,
 }
 
 impl ReleaseSlip {
-    // Gives the slip back with its process and its case.
+    /// The slip again, with the process and the case that it is for.
     pub fn stub(self) -> (ReleaseSlip, u64, u64)
         ensures slip { result.0 ≡ self }
         ensures process { result.1 ≡ self.process }

@@ -6,7 +6,7 @@ use crate::places::Place;
 use plan::Plan;
 use protocol::Subject;
 
-// Whether the plan has the subject.
+/// Whether the plan has the subject: its originator, its serial or its case, and its round.
 pub fn is_within(plan: &Plan, subject: Subject) -> bool
     ensures { result ≡ within plan.now subject }
 {
@@ -23,7 +23,7 @@ pub fn is_within(plan: &Plan, subject: Subject) -> bool
     }
 }
 
-// The place of a process's record of a subject, if the plan has both.
+/// The places of a process for a subject, if the plan has both.
 pub fn place_of(plan: &Plan, process: u64, subject: Subject) -> Option<Place>
     ensures value { result ≡ place_of plan.now process subject }
     ensures laid { Laid plan.now }
@@ -63,7 +63,7 @@ fn number_of(plan: &Plan, subject: Subject) -> u64
     }
 }
 
-// The place of a process's record of a case, if the plan has both.
+/// The place of a process's record of a case in `Memory::cases`, if the plan has both.
 pub fn case_place(plan: &Plan, process: u64, case: u64) -> Option<usize>
     ensures value { result ≡ case_place_of plan.now process case }
     ensures laid { Laid plan.now }

@@ -4,7 +4,8 @@ ghost use Rattle.plan.specs.Lines.{Becomes};
 use crate::drafts::{Draft, Line, Marked};
 use std::marker::PhantomData;
 
-// Opening calls it once memory and carrier are ready.
+/// The line with the draft's plan and marks. Memory has to be cleared for it: `line::open_line`
+/// does.
 impl From<Draft> for Line {
     ghost from_gives = { Becomes };
 

@@ -5,10 +5,10 @@ ghost use Rattle.plan.specs.Sheet.{row_of, thresholds_of};
 
 use crate::plans::{Plan, Thresholds};
 
-// The row of n processes of which none is faulty, for n from 1. The rows for one more faulty process each follow it.
+// For n processes, from 1, the row of t = 0. The rows of t = 1, 2 and so on follow it.
 const FIRST_ROW: [u8; 16] = [0, 1, 2, 3, 5, 7, 9, 12, 15, 18, 22, 26, 30, 35, 40, 45];
 
-// Echo, ready and accept: one sheet with a row for each n and t with 3t < n, as the rules have it, and not a table of tables.
+// Echo, ready and accept, for each n and t with 3t < n.
 const SHEET: [[u8; 3]; 51] = [
     // n = 1
     [1, 1, 1],
@@ -80,6 +80,7 @@ const SHEET: [[u8; 3]; 51] = [
 ];
 
 impl Plan {
+    /// The plan's row of the sheet.
     pub fn thresholds(&self) -> Thresholds
         ensures value { result ≡ thresholds_of self.now.n self.now.t }
         ensures sound { Sound self.now.n self.now.t result.echo result.ready result.accept }
