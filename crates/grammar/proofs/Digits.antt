@@ -5,23 +5,12 @@ use Rattle.std.proofs.lemmas.Str.Parse.{IsNumeralModel, numerals_by_fold, tells_
 use Rattle.std.proofs.lemmas.Bool.{and_parts, both_ways, cases_lt}
 use Rattle.std.proofs.lemmas.Bool.Decides.{nat_tests}
 use Rattle.std.specs.Char.{is_ascii_digit}
-use Rattle.std.specs.List.{fold, concat, AllByRecursion}
+use Rattle.std.specs.List.{fold, AllByRecursion}
 use Rattle.std.specs.Str.{all_ascii_digits}
 use Rattle.token.proofs.Pieces.{pieces_on, pieces_apart}
 use Rattle.token.specs.Tokens.{joins, front, behind, lead, pieces, pushed, worth}
 use Rattle.form.specs.Format.{Fits64}
 use Rattle.grammar.proofs.Machine.{plain, good}
-
--- a byte in front of tokens
-joined_before : (b : ℕ) (ps : List (List ℕ)) (t : Bool) → concat (cond t ((b ∷ front ps) ∷ behind ps) ((b ∷ []) ∷ ps)) ≡ b ∷ concat ps
-joined_before b [] true = refl
-joined_before b [] false = refl
-joined_before b (p ∷ ps) true = refl
-joined_before b (p ∷ ps) false = refl
-
-pub joined_pieces : (s : List ℕ) → concat (pieces s) ≡ s
-joined_pieces [] = refl
-joined_pieces (b ∷ bs) = joined_before b (pieces bs) (joins b (lead (pieces bs))) ∙ ap (λ z. b ∷ z) (joined_pieces bs)
 
 -- the tokens of a text are plain
 plain_one : (b : ℕ) → plain (b ∷ []) ≡ true

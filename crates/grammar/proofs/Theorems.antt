@@ -3,13 +3,14 @@ use Rattle.std.proofs.Common.{◌≡◌, ℕ, List, ◌++◌, Ok, sym, ap, ◌�
 use Rattle.std.specs.List.{concat}
 use Rattle.token.specs.declared.fault.Place.{Place}
 use Rattle.token.specs.Tokens.{pieces}
+use Rattle.token.proofs.Pieces.{joined_pieces}
 use Rattle.form.specs.declared.forms.Form.{Form}
 use Rattle.form.specs.Format.{FormFits, written}
 use Rattle.grammar.specs.Exact.{Exact, Faults}
 use Rattle.grammar.specs.Grammar.{form, reading}
 use Rattle.grammar.proofs.Commands.{form_read, form_made, form_live}
 use Rattle.grammar.proofs.Cuts.{pieces_written}
-use Rattle.grammar.proofs.Digits.{joined_pieces, plain_pieces}
+use Rattle.grammar.proofs.Digits.{plain_pieces}
 use Rattle.grammar.proofs.Machine.{Yields, yields_from_run, stops_from_run, run_from_yields}
 
 -- a form is yielded by just the tokens of its text

@@ -4,7 +4,7 @@ use Rattle.std.proofs.lemmas.List.{take_rest}
 use Rattle.std.proofs.lemmas.Bool.Decides.{nat_tests}
 use Rattle.std.proofs.lemmas.List.Folds.{length-prefix_len}
 use Rattle.std.proofs.lemmas.List.Sums.{prefix_len-le-length}
-use Rattle.std.specs.List.{take_while}
+use Rattle.std.specs.List.{concat, take_while}
 use Rattle.token.specs.Tokens.{joins, front, behind, lead, pieces, running, spanning}
 
 -- a byte joins only a byte of its own kind
@@ -26,6 +26,17 @@ pieces_on b c cs p ps j e =
 
 pub pieces_apart : (b : ℕ) (s : List ℕ) → joins b (get_or s 0 0) ≡ false → pieces (b ∷ s) ≡ (b ∷ []) ∷ pieces s
 pieces_apart b s j = ap (λ t. cond t ((b ∷ front (pieces s)) ∷ behind (pieces s)) ((b ∷ []) ∷ pieces s)) (ap (joins b) (lead_pieces s) ∙ j)
+
+-- a byte in front of tokens
+joined_before : (b : ℕ) (ps : List (List ℕ)) (t : Bool) → concat (cond t ((b ∷ front ps) ∷ behind ps) ((b ∷ []) ∷ ps)) ≡ b ∷ concat ps
+joined_before b [] true = refl
+joined_before b [] false = refl
+joined_before b (p ∷ ps) true = refl
+joined_before b (p ∷ ps) false = refl
+
+pub joined_pieces : (s : List ℕ) → concat (pieces s) ≡ s
+joined_pieces [] = refl
+joined_pieces (b ∷ bs) = joined_before b (pieces bs) (joins b (lead (pieces bs))) ∙ ap (λ z. b ∷ z) (joined_pieces bs)
 
 running_same : (b c : ℕ) (xs : List ℕ) → joins b c ≡ true → running c xs ≡ running b xs
 running_same b c [] j = refl

@@ -1,5 +1,6 @@
 -- What a cursor gives, token by token.
-use Rattle.std.specs.Prelude.{ℕ, ◌+◌, cond, List, [], ◌∷◌, length, Some, None, Ok, Err, Option, Result}
+use Rattle.std.specs.Prelude.{◌≡◌, ℕ, ◌+◌, cond, List, [], ◌∷◌, ◌++◌, length, Some, None, Ok, Err, Option, Result}
+use Rattle.std.specs.List.{concat}
 use Rattle.token.specs.declared.cursor.Cursor.{Cursor}
 use Rattle.token.specs.declared.fault.Place.{Place}
 use Rattle.token.specs.declared.fault.TokenFault.{TokenFault}
@@ -9,6 +10,10 @@ use Rattle.token.specs.Tokens.{pieces, behind, lawful, spelling, Suits}
 -- A cursor is known by two things: the tokens that are left, and the place of the next one.
 abbrev pub left : Cursor → List (List ℕ)
 left c = pieces c.rest.now
+
+-- the tokens that are left, put together
+abbrev pub unread : Cursor → List ℕ
+unread c = concat (left c)
 
 abbrev pub here : Cursor → Place
 here c = c.place
@@ -44,3 +49,10 @@ abbrev pub remaining : Result (Option Token) TokenFault → List (List ℕ) → 
 remaining (Ok None) ps = ps
 remaining (Ok (Some t)) ps = behind ps
 remaining (Err e) ps = ps
+
+-- A token is cut off the front of what was unread. There is none only where nothing is unread,
+-- and a fault takes nothing.
+abbrev pub Cuts : Result (Option Token) TokenFault → List ℕ → List ℕ → Type 0
+Cuts (Ok None) old new = (old ≡ []) × (new ≡ [])
+Cuts (Ok (Some t)) old new = old ≡ spelling t ++ new
+Cuts (Err e) old new = old ≡ new

@@ -5,15 +5,20 @@ ghost use Rattle.token.specs.Tokens.{spelling, below64, pushed, worth, number_of
 /// One token. A word and a number borrow their bytes from the line.
 #[derive(Clone, Copy, Debug, PartialEq, Eq)]
 pub enum Token<'a> {
+    /// `(`, alone.
     Open,
+    /// `)`, alone.
     Close,
+    /// One byte 32. Two spaces are two tokens.
     Space,
+    /// A longest run of `a` to `z`.
     Word(&'a [u8]),
+    /// A longest run of digits without a leading zero, and the number below 2^64 that they write.
     Number { digits: &'a [u8], value: u64 },
 }
 
 impl<'a> Token<'a> {
-    /// The bytes of the token.
+    /// The token's bytes, as they stand in its line.
     pub fn text(self) -> &'a [u8]
         ensures { result.now ≡ spelling self.entry }
     {
