@@ -2,8 +2,7 @@
 ghost use Rattle.text.specs.Shown.{Appends};
 
 use runs::Answer;
-use std::alloc::AllocError;
-use text::Text;
+use text::{NoMemory, Text};
 
 #[derive(Clone, Copy, Debug, PartialEq, Eq)]
 pub enum Said {
@@ -15,7 +14,7 @@ impl Said {
     ghost use Rattle.desk.specs.Wording.{answer_text, said_text};
 
     // Adds the answer's text to a text.
-    pub fn write_to(self, text: Text) -> Result<Text, AllocError>
+    pub fn write_to(self, text: Text) -> Result<Text, NoMemory>
         ensures { Appends result text (said_text self) }
     {
         match self {
@@ -24,7 +23,7 @@ impl Said {
         }
     }
 
-    fn put_answer(text: Text, answer: Answer) -> Result<Text, AllocError>
+    fn put_answer(text: Text, answer: Answer) -> Result<Text, NoMemory>
         ensures { Appends result text (answer_text answer) }
     {
         match answer {

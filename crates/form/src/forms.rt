@@ -3,39 +3,53 @@ ghost use Rattle.text.specs.Shown.{Appends};
 
 use crate::marks::Marks;
 use protocol::{Step, Subject};
-use std::alloc::AllocError;
-use text::Text;
+use text::{NoMemory, Text};
 
-/// One form of a script, as written: its numbers are any below 2^64.
+/// One form of a script, as written. Its numbers are any below 2^64: the call that it is turned
+/// into refuses what is out of range.
 #[derive(Clone, Copy, Debug, PartialEq, Eq)]
 pub enum Form {
+    /// A line is opened.
     Line(LineForm),
+    /// Process `counter` announces the tag `tag`.
     Announce { counter: u64, tag: u64 },
+    /// Process `counter` opens case `case` with a vote: 0 for keep, 1 for release.
     Open { counter: u64, case: u64, vote: u64 },
+    /// A faulty process sends a message.
     Forge(ForgeForm),
+    /// Process `counter` is delivered one message that waits for it, by the pick number `pick`.
     Deliver { counter: u64, pick: u64 },
+    /// Process `counter` advances in case `case`.
     Advance { counter: u64, case: u64 },
 }
 
-/// A line is opened: so many processes, so many faulty ones tolerated, and these marked.
+/// How a line is opened.
 #[derive(Clone, Copy, Debug, PartialEq, Eq)]
 pub struct LineForm {
+    /// n, the number of processes.
     pub counters: u64,
+    /// t, how many of them may be faulty.
     pub tolerate: u64,
+    /// The processes that are marked as faulty.
     pub strange: Marks,
 }
 
-/// A message is forged.
+/// The message that a faulty process sends.
 #[derive(Clone, Copy, Debug, PartialEq, Eq)]
 pub struct ForgeForm {
+    /// The sender.
     pub from: u64,
+    /// The addressee.
     pub to: u64,
+    /// Which of the three steps of a broadcast it is.
     pub step: Step,
+    /// What the broadcast is about.
     pub subject: Subject,
+    /// The value that it carries, as a number.
     pub body: u64,
 }
 
-fn put_step(text: Text, step: Step) -> Result<Text, AllocError>
+fn put_step(text: Text, step: Step) -> Result<Text, NoMemory>
     ensures { Appends result text (stepped step) }
 {
     match step {
@@ -45,7 +59,7 @@ fn put_step(text: Text, step: Step) -> Result<Text, AllocError>
     }
 }
 
-fn put_subject(text: Text, subject: Subject) -> Result<Text, AllocError>
+fn put_subject(text: Text, subject: Subject) -> Result<Text, NoMemory>
     ensures { Appends result text (subjected subject) }
 {
     match subject {
@@ -65,7 +79,7 @@ fn put_subject(text: Text, subject: Subject) -> Result<Text, AllocError>
     }
 }
 
-fn put_marks(mut text: Text, marks: &Marks) -> Result<Text, AllocError>
+fn put_marks(mut text: Text, marks: &Marks) -> Result<Text, NoMemory>
     ensures { Appends result text (marked marks.now) }
 {
     for mark in marks.as_slice() {
@@ -75,7 +89,7 @@ fn put_marks(mut text: Text, marks: &Marks) -> Result<Text, AllocError>
 }
 
 impl LineForm {
-    fn write_to(&self, text: Text) -> Result<Text, AllocError>
+    fn write_to(&self, text: Text) -> Result<Text, NoMemory>
         ensures { Appends result text (lined self.now) }
     {
         let text = text
@@ -87,7 +101,7 @@ impl LineForm {
 }
 
 impl ForgeForm {
-    fn write_to(&self, text: Text) -> Result<Text, AllocError>
+    fn write_to(&self, text: Text) -> Result<Text, NoMemory>
         ensures { Appends result text (forged self.now) }
     {
         let text = text
@@ -102,8 +116,8 @@ impl ForgeForm {
 }
 
 impl Form {
-    /// Adds the form's text to a text.
-    pub fn write_to(&self, text: Text) -> Result<Text, AllocError>
+    /// Adds the form's text to a text, without a line break. It fails only as `Text::put` does.
+    pub fn write_to(&self, text: Text) -> Result<Text, NoMemory>
         ensures { Appends result text (written self.now) }
     {
         match self {

@@ -3,8 +3,8 @@ ghost use Rattle.form.specs.Marks.{added, room_for};
 
 use std::marker::Model;
 
-/// The marks of a line form, in the order written: at most `MOST`.
-// A form is `Copy`, which a public type may not lose; neither `arrayvec::ArrayVec` nor a list of std's is.
+/// The marks of a line form, in the order written: numbers of processes, at most `MOST` of them.
+/// One may stand twice.
 #[derive(Clone, Copy, Debug, PartialEq, Eq)]
 pub struct Marks {
     values: [u64; Marks::MOST],
@@ -27,7 +27,7 @@ impl Model for Marks {
     ghost inverse_ok = { padded_listed };
 }
 
-/// There is no room for one mark more.
+/// `MOST` marks stand already.
 #[derive(Clone, Copy, Debug, PartialEq, Eq)]
 pub struct Full;
 
@@ -45,7 +45,7 @@ impl Marks {
         }
     }
 
-    /// One mark more, if there is room for it.
+    /// Adds a mark behind the others. It is refused, and nothing changes, where `MOST` stand.
     pub fn push(&mut self, mark: u64) -> Result<(), Full>
         ensures answer { IsOk result ↔ IsTrue (room_for self.old) }
         ensures after { self.new ≡ added self.old mark }
@@ -58,7 +58,7 @@ impl Marks {
         Ok(())
     }
 
-    /// The marks.
+    /// The marks, in the order written.
     pub fn as_slice(&self) -> &[u64]
         ensures { result.now ≡ self.now }
     {

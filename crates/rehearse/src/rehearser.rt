@@ -9,8 +9,8 @@ use desk::{Desk, Said};
 use memory::{BroadcastRecord, CaseRecord, Memory};
 use protocol::Message;
 use script::{Responder, ScriptFault, ScriptLine, answer, check_line};
-use std::alloc::{AllocError, Global};
-use text::Text;
+use std::alloc::Global;
+use text::{NoMemory, Text};
 
 // Acts on each line's form, at one desk.
 #[derive(Drop)]
@@ -33,7 +33,7 @@ impl Responder for Rehearser<'_> {
     }
 
     // The clause of the trait: the check does not hand it on to a function without self where the type has a lifetime.
-    fn write(said: Said, text: Text) -> Result<Text, AllocError>
+    fn write(said: Said, text: Text) -> Result<Text, NoMemory>
         ensures { Appends result text (said_text said) }
     {
         said.write_to(text)
@@ -42,7 +42,7 @@ impl Responder for Rehearser<'_> {
 
 /// Acts on a script line by line: each line gets the answer of its form, or its fault.
 /// The memory is for five processes, and the basket is empty.
-pub fn rehearse(heap: Global, input: &[u8]) -> Result<Text, AllocError>
+pub fn rehearse(heap: Global, input: &[u8]) -> Result<Text, NoMemory>
     ensures { IfOk result (λ t. shown t ≡ rehearsed input.now) }
 {
     let memory = Memory {

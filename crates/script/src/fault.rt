@@ -5,14 +5,15 @@ ghost use Rattle.text.specs.Shown.{Appends};
 
 use grammar::FormFault;
 use protocol::Refusal;
-use std::alloc::AllocError;
-use text::Text;
+use text::{NoMemory, Text};
 use token::Place;
 
-/// Why a script, or a line of it, gets no other answer. The form's fault is carried whole.
+/// Why a script, or a line of it, gets no other answer.
 #[derive(Clone, Copy, Debug, PartialEq, Eq)]
 pub enum ScriptFault {
+    /// The line is no form: what is wrong with it, and where.
     Form(FormFault),
+    /// What the line asks for, or the whole script, is refused.
     Refused(Refusal),
 }
 
@@ -43,7 +44,7 @@ impl From<ScriptFault> for Refusal {
     }
 }
 
-fn put_place(text: Text, layer: &[u8], place: Place) -> Result<Text, AllocError>
+fn put_place(text: Text, layer: &[u8], place: Place) -> Result<Text, NoMemory>
     ensures { Appends result text (placed layer.now place) }
 {
     let text = text.put(b"(fault (layer ")?.put(layer)?;
@@ -52,14 +53,14 @@ fn put_place(text: Text, layer: &[u8], place: Place) -> Result<Text, AllocError>
         .put(b"))")
 }
 
-fn put_refusal(text: Text, refusal: Refusal) -> Result<Text, AllocError>
+fn put_refusal(text: Text, refusal: Refusal) -> Result<Text, NoMemory>
     ensures { Appends result text (refusal_text refusal) }
 {
     text.put_field(b"(refused ", u64::from(refusal.number()))?
         .put(b")")
 }
 
-fn put_form_fault(text: Text, fault: FormFault) -> Result<Text, AllocError>
+fn put_form_fault(text: Text, fault: FormFault) -> Result<Text, NoMemory>
     ensures { Appends result text (form_fault_text fault) }
 {
     match fault {
@@ -69,8 +70,8 @@ fn put_form_fault(text: Text, fault: FormFault) -> Result<Text, AllocError>
 }
 
 impl ScriptFault {
-    /// Adds the fault's text to a text.
-    pub fn write_to(self, text: Text) -> Result<Text, AllocError>
+    /// Adds the fault's text to a text, without a line break. It fails only as `Text::put` does.
+    pub fn write_to(self, text: Text) -> Result<Text, NoMemory>
         ensures { Appends result text (fault_text self) }
     {
         match self {

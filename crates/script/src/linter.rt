@@ -9,20 +9,20 @@ use crate::split::ScriptLine;
 use form::Form;
 use protocol::Refusal;
 use reader::read;
-use std::alloc::{AllocError, Global};
-use text::Text;
+use std::alloc::Global;
+use text::{NoMemory, Text};
 
-/// The bytes that a script may have.
+/// The most bytes that a script may have, line breaks included.
 pub const LIMIT: usize = 4096;
 
-/// The line's form.
+/// The line's form, or its first fault.
 pub fn check_line(line: ScriptLine<'_>) -> Result<Form, ScriptFault>
     ensures { result ≡ checked line.entry.number line.entry.text.now }
 {
     Ok(read(line.number, line.text)?)
 }
 
-/// Whether a script is short enough.
+/// Refuses a script of more than `LIMIT` bytes, as `MemoryTooSmall`.
 pub fn check_size(input: &[u8]) -> Result<(), ScriptFault>
     ensures { result ≡ sized input.now }
 {
@@ -49,13 +49,14 @@ impl Responder for Linter {
         check_line(line)
     }
 
-    fn write(form: Form, text: Text) -> Result<Text, AllocError> {
+    fn write(form: Form, text: Text) -> Result<Text, NoMemory> {
         form.write_to(text)
     }
 }
 
-/// Checks a script line by line: each line gets its form written back, or its fault.
-pub fn lint(heap: Global, input: &[u8]) -> Result<Text, AllocError>
+/// Checks a script line by line: each line gets its form written back, or its fault told. It fails
+/// only where the heap gives no memory.
+pub fn lint(heap: Global, input: &[u8]) -> Result<Text, NoMemory>
     ensures { IfOk result (λ t. shown t ≡ linted input.now) }
 {
     answer(heap, input, Linter)

@@ -1,11 +1,12 @@
 ghost use Rattle.std.specs.Prelude.{◌≡◌, ◌+◌, ◌^◌, ◌<◌, ◌≤◌, ◌==◌, length, position};
 ghost use Rattle.script.specs.Lint.{line_length, lines};
 
-/// A line of a script, and its number. The reader stands below this crate and takes the two one by one: each of its two
-/// functions hands them on once.
+/// A line of a script.
 #[derive(Clone, Copy, Debug, PartialEq, Eq)]
 pub struct ScriptLine<'a> {
+    /// Its number in the script, from 1.
     pub number: u64,
+    /// Its bytes, without the line break.
     pub text: &'a [u8],
 }
 

@@ -1,20 +1,49 @@
 //! A text under construction. Each call takes the text and gives it back longer; where memory
 //! runs out the text is let go, so that none is ever half written.
-//! It is put together from byte strings, as a script's words are read, and not by `Display`.
 #![tactic(auto)]
 
-ghost use Rattle.std.specs.Prelude.{◌≡◌, [], ◌++◌, decimal};
-ghost use Rattle.text.specs.Shown.{shown, Appends};
+ghost use Rattle.std.specs.Prelude.{◌≡◌, [], ◌++◌, ◌<◌, ◌≤◌, length, decimal, IfOk, OnErr};
+ghost use Rattle.text.specs.Shown.{shown, room, Appends};
 
 use std::alloc::{AllocError, Global};
+use std::error::Error;
+use std::{fmt, io};
 
+/// The heap gave no memory for a text. Only this crate can make one, of what the heap answered.
+#[derive(Clone, Copy, Debug, PartialEq, Eq)]
+pub struct NoMemory(AllocError);
+
+impl fmt::Display for NoMemory {
+    ghost use Rattle.std.specs.Prelude.{Some, codes};
+
+    ghost output = { λ _. Some (codes "The heap gave no memory for the text.") };
+
+    fn fmt<W: fmt::Write>(&self, f: &mut fmt::Formatter<W>) -> fmt::Result {
+        f.write_str("The heap gave no memory for the text.")
+    }
+}
+
+impl Error for NoMemory {}
+
+impl From<NoMemory> for io::Error {
+    ghost use Rattle.std.specs.IoError.{error_kind};
+    ghost use Rattle.std.specs.declared.io.ErrorKind.TheVariants.{OutOfMemory};
+
+    ghost from_gives = { λ _ e. error_kind e ≡ OutOfMemory };
+
+    fn from(why: NoMemory) -> io::Error {
+        io::Error::from(why.0)
+    }
+}
+
+/// A text under construction.
 #[derive(Drop)]
 pub struct Text {
     bytes: Vec<u8>,
 }
 
 impl Text {
-    /// No text yet.
+    /// A text of no bytes. The heap is asked for none before something is put.
     pub fn new(heap: Global) -> Text
         ensures { shown result ≡ [] }
     {
@@ -30,25 +59,30 @@ impl Text {
         self.bytes.as_slice()
     }
 
-    /// Adds bytes.
-    pub fn put(mut self, more: &[u8]) -> Result<Text, AllocError>
-        ensures { Appends result self more.now }
+    /// Adds bytes. It fails only where the text has no room for them and the heap gives it none.
+    pub fn put(mut self, more: &[u8]) -> Result<Text, NoMemory>
+        ensures text { Appends result self more.now }
+        ensures full { OnErr result (room self < length (shown self ++ more.now)) }
+        ensures room { IfOk result (λ t. room self ≤ room t) }
     {
-        self.bytes.extend_from_slice(more)?;
+        self.bytes.extend_from_slice(more).map_err(NoMemory)?;
         Ok(self)
     }
 
-    /// Adds a number in decimal.
-    pub fn put_number(self, n: u64) -> Result<Text, AllocError>
-        ensures { Appends result self (decimal n) }
+    /// Adds a number in decimal, and fails as `put` does.
+    pub fn put_number(self, n: u64) -> Result<Text, NoMemory>
+        ensures text { Appends result self (decimal n) }
+        ensures full { OnErr result (room self < length (shown self ++ decimal n)) }
+        ensures room { IfOk result (λ t. room self ≤ room t) }
     {
-        let digits = format!(in *self.bytes.allocator(); "{n}")?;
-        self.put(digits.as_bytes())
+        self.put(itoa::Buffer::new().format(n).as_bytes())
     }
 
-    /// Adds words and a number behind them.
-    pub fn put_field(self, words: &[u8], n: u64) -> Result<Text, AllocError>
-        ensures { Appends result self (words.now ++ decimal n) }
+    /// Adds words and a number behind them, and fails as `put` does.
+    pub fn put_field(self, words: &[u8], n: u64) -> Result<Text, NoMemory>
+        ensures text { Appends result self (words.now ++ decimal n) }
+        ensures full { OnErr result (room self < length (shown self ++ (words.now ++ decimal n))) }
+        ensures room { IfOk result (λ t. room self ≤ room t) }
     {
         self.put(words)?.put_number(n)
     }

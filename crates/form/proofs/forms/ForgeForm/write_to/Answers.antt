@@ -3,4 +3,4 @@ use Rattle.form.proofs.forms.ForgeForm.write_to.Goals as goal
 
 pub returns : goal.returns
 returns c =
-    simp (c.in_ok-put_field-3.ensures, c.in_ok-put_subject.ensures, c.in_ok-text-2.ensures, c.in_ok-put_step.ensures, c.in_ok-text.ensures, c.in_ok-put_field-2.ensures, c.in_ok-put_field.ensures, append_assoc) at c.put-3.ensures
+    simp (c.in_ok-put_field-3.ensures.text, c.in_ok-put_subject.ensures, c.in_ok-text-2.ensures.text, c.in_ok-put_step.ensures, c.in_ok-text.ensures.text, c.in_ok-put_field-2.ensures.text, c.in_ok-put_field.ensures.text, append_assoc) at c.put-3.ensures.text
