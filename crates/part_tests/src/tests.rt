@@ -9,6 +9,7 @@ mod items;
 mod memories;
 mod messages;
 mod plans;
+mod refusals;
 mod steps;
 mod validity;
 
