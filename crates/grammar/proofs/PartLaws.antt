@@ -11,7 +11,8 @@ use Rattle.grammar.specs.Grammar.{Shape, next, word, number, arg, field, known}
 use Rattle.grammar.proofs.Machine.{good, Yields, Live}
 use Rattle.grammar.proofs.Digits.{number_is, good_decimal, digit_decimal, worth_decimal}
 
--- A part of the grammar reads the values a that fit, in the tokens that spell gives, and hands them on as name a.
+-- A part of the grammar reads the values a that fit, in the tokens that spell gives, and hands
+-- them on as name a.
 pub record Part {A B : Type 0} (part : (B → Shape) → Shape) (name : A → B) (Fit : A → Type 0) (spell : A → List (List ℕ) → List (List ℕ)) : Type 0 where
   pub read : (k : B → Shape) (ps : List (List ℕ)) (f : Form) → Yields (part k) ps f → (a : A) × (rest : List (List ℕ)) × Fit a × (ps ≡ spell a rest) × Yields (k (name a)) rest f
   pub made : (k : B → Shape) (a : A) (rest : List (List ℕ)) (f : Form) → Fit a → Yields (k (name a)) rest f → Yields (part k) (spell a rest) f

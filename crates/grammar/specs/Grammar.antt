@@ -23,7 +23,8 @@ pub data Shape : Type 0 where
 abbrev pub misplaced : Place → List ℕ → FormFault
 misplaced at p = cond (lawful p) (Unexpected at) (Token (record { place = at }))
 
--- Reads tokens from a place. The first that does not fit is told, and of a token that is not lawful that.
+-- Reads tokens from a place. The first that does not fit is told, and of a token that is not
+-- lawful that.
 unfoldable pub run : Shape → Place → List (List ℕ) → Result Form FormFault
 run (done f) at [] = Ok f
 run (done f) at (p ∷ ps) = Err (misplaced at p)

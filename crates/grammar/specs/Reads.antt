@@ -10,7 +10,8 @@ use Rattle.grammar.specs.declared.parts.Found.{Found}
 use Rattle.form.specs.declared.forms.Form.{Form}
 use Rattle.grammar.specs.Grammar.{Shape, done, next, run}
 
--- where the machine stops: the form that it has come to, if it has, and the place and the tokens of what is left
+-- where the machine stops: the form that it has come to, if it has, and the place and the tokens
+-- of what is left
 pub record Stop : Type 0 where
   pub form : Option Form
   pub place : Place
@@ -42,12 +43,14 @@ ahead c s = comes_to (run s (here c) (left c)) (halt s (here c) (left c))
 abbrev pub stopped : Cursor → FormFault → Sequel
 stopped d e = comes_to (Err e) (short_of_form (here d) (left d))
 
--- what a line comes to behind an answer: the answer's value is used from the new place on, and its fault is the line's
+-- what a line comes to behind an answer: the answer's value is used from the new place on, and
+-- its fault is the line's
 abbrev pub ahead_after : {X : Type 0} → Cursor → Result X FormFault → (X → Shape) → Sequel
 ahead_after d (Ok x) k = ahead d (k x)
 ahead_after d (Err e) k = stopped d e
 
--- From cursor c to d the part G of a form was read, with the answer r. This fixes r, and where d stands, behind a fault too:
+-- From cursor c to d the part G of a form was read, with the answer r. This fixes r, and where d
+-- stands, behind a fault too:
 -- k can be any, and what becomes of a value that it is told shows in the form that it comes to.
 abbrev pub Reads : {X : Type 0} → Cursor → Cursor → Result X FormFault → ((X → Shape) → Shape) → Type 0
 Reads {X} c d r G = (k : X → Shape) → ahead c (G k) ≡ ahead_after d r k

@@ -1,5 +1,6 @@
 //! The grammar of a script's forms, token by token, and readers of its small parts.
-//! The grammar is data, so that which form a line is, and where its first fault stands, are one definition.
+//! The grammar is data, so that which form a line is, and where its first fault stands, are one
+//! definition.
 #![tactic(auto)]
 
 mod fault;

@@ -6,14 +6,16 @@ use crate::fault::FormFault;
 use form::Form;
 use token::{Cursor, Place, Token};
 
-/// A token, and its place.
+/// A token that was taken from a line.
 #[derive(Clone, Copy, Debug, PartialEq, Eq)]
 pub struct Found<'a> {
     pub token: Token<'a>,
+    /// Where its first byte stands.
     pub place: Place,
 }
 
-// The next token, which has to be there.
+/// Takes the next token. A token that is not lawful is a fault and stays; the end of the line is a
+/// fault too.
 pub fn pull<'a>(cursor: &mut Cursor<'a>) -> Result<Found<'a>, FormFault>
     ensures { Pulled cursor.old cursor.new result }
 {
@@ -22,8 +24,8 @@ pub fn pull<'a>(cursor: &mut Cursor<'a>) -> Result<Found<'a>, FormFault>
     Ok(Found { token, place })
 }
 
-// The end of the line behind a whole form. It uses the cursor up. The form is handed in and given back, since the
-// grammar ends a line in its form, and the clause says which.
+/// Ends a line behind a whole form, and gives this form back. It uses the cursor up. A token that
+/// is left is a fault.
 pub fn finish(mut cursor: Cursor<'_>, form: Form) -> Result<Form, FormFault>
     ensures { Ends cursor.entry form result }
 {
@@ -34,7 +36,7 @@ pub fn finish(mut cursor: Cursor<'_>, form: Form) -> Result<Form, FormFault>
     Ok(form)
 }
 
-// A token of these bytes.
+/// Takes a token of these bytes. Any other is a fault, and is taken if it is lawful.
 pub fn expect(cursor: &mut Cursor<'_>, bytes: &[u8]) -> Result<(), FormFault>
     ensures { Reads cursor.old cursor.new result (word bytes.now) }
 {
@@ -45,7 +47,7 @@ pub fn expect(cursor: &mut Cursor<'_>, bytes: &[u8]) -> Result<(), FormFault>
     Ok(())
 }
 
-// A number.
+/// Takes a number and gives its value. Any other token is a fault, and is taken if it is lawful.
 pub fn read_number(cursor: &mut Cursor<'_>) -> Result<u64, FormFault>
     ensures { Reads cursor.old cursor.new result number }
 {
@@ -56,7 +58,7 @@ pub fn read_number(cursor: &mut Cursor<'_>) -> Result<u64, FormFault>
     }
 }
 
-// A space and a number.
+/// Takes a space and a number, as ` 7`, and gives the number's value.
 pub fn read_arg(cursor: &mut Cursor<'_>) -> Result<u64, FormFault>
     ensures { Reads cursor.old cursor.new result arg }
 {
@@ -64,7 +66,7 @@ pub fn read_arg(cursor: &mut Cursor<'_>) -> Result<u64, FormFault>
     read_number(cursor)
 }
 
-// A space and a bracketed name with its number.
+/// Takes a space and a number in brackets with its name, as ` (pick 7)`, and gives its value.
 pub fn read_field(cursor: &mut Cursor<'_>, name: &[u8]) -> Result<u64, FormFault>
     ensures { Reads cursor.old cursor.new result (field name.now) }
 {

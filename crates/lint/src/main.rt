@@ -5,7 +5,6 @@ use script::{LIMIT, lint};
 use std::io;
 use std::io::{Read, Write};
 
-// The rehearsal's main is the same but for its call: one helper would be handed the call and the runtime, no shorter.
 fn main(rt: HostRuntime) -> io::Result<()> {
     let heap = rt.alloc();
     let mut input = Vec::new(heap);

@@ -8,8 +8,7 @@ use grammar::{FormFault, Found, expect, finish, pull, read_arg, read_field, read
 use protocol::{Step, Subject};
 use token::Cursor;
 
-// Each of these reads the rest of its form, behind the word that names it. One function for the forms of two numbers
-// would be handed a field's name and a way to make the form, and be no shorter.
+// Each of these reads the rest of its form, behind the word that names it.
 fn read_announce(cursor: &mut Cursor<'_>) -> Result<Form, FormFault>
     ensures { Reads cursor.old cursor.new result announce }
 {
@@ -187,7 +186,9 @@ fn read_whole(number: u64, line: &[u8]) -> Result<Form, FormFault>
     finish(cursor, form)
 }
 
-/// Reads a line, which is line `number` of its script, as the one form whose text it is.
+/// Reads a line as the one form whose text it is. `number` is the line's in its script, from 1, and
+/// `line` is without its line break. Otherwise the first fault is told: a token that is not lawful
+/// (`Token`), or one that no form has there or a line that ends early (`Unexpected`).
 pub fn read(number: u64, line: &[u8]) -> Result<Form, FormFault>
     ensures value { result ≡ reading number line.now }
     ensures exact { Exact line.now result }

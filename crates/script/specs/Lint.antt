@@ -71,7 +71,8 @@ whole answers s (Err e) = fault_text e ++ (10 ∷ [])
 abbrev pub script_answered : (ℕ → List (List ℕ) → List ℕ) → List ℕ → List ℕ
 script_answered answers s = whole answers s (sized s)
 
--- a line with this number is answered so, where these were the answers to lines before, and those are the ones to come
+-- a line with this number is answered so, where these were the answers to lines before, and those
+-- are the ones to come
 abbrev pub Responds : {A : Type 0} → (A → List ℕ) → (before after : ℕ → List (List ℕ) → List ℕ) → ℕ → List ℕ → Result A ScriptFault → Type 0
 Responds text before after n line r = (ls : List (List ℕ)) → told text r ++ (10 ∷ after (n + 1) ls) ≡ before n (line ∷ ls)
 

@@ -10,6 +10,7 @@ lines_left l = lines l.rest.now
 abbrev pub next_number : Lines → ℕ
 next_number l = l.number
 
--- a step gives the first line that is left with its number; where none is left it gives none, and changes nothing
+-- a step gives the first line that is left with its number; where none is left it gives none,
+-- and changes nothing
 abbrev pub GivesLine : Lines → Option ScriptLine → Lines → Type 0
 GivesLine s r t = MatchOption r ((lines_left s ≡ []) × ((lines_left t ≡ []) × (next_number t ≡ next_number s))) (λ x. (x.number ≡ next_number s) × ((lines_left s ≡ x.text.now ∷ lines_left t) × (next_number t ≡ next_number s + 1)))
