@@ -64,15 +64,16 @@ def enclosing(source, old):
 
 
 def edit_rows():
-    """A row for each crate: its functions that have must-fail edits, with the edits of each."""
+    """A row for each crate: its functions that have must-fail edits, with the edits of each. An edit of several places stands
+    with each function that it changes."""
     for crate in sorted((ROOT / "crates").iterdir()):
         pairs = {}
         for edit in sorted(crate.glob("must-fail/*.edit")):
             lines = edit.read_text().split("\n")
             file = next(line[6:] for line in lines if line.startswith("file: "))
-            old = next(line[5:] for line in lines if line.startswith("old: "))
-            where = enclosing((crate / file).read_text(), old.strip()) if file.startswith("src/") else file
-            pairs.setdefault(where, []).append(edit.stem)
+            source = (crate / file).read_text()
+            for where in {enclosing(source, line[5:]) for line in lines if line.startswith("old: ")}:
+                pairs.setdefault(where, []).append(edit.stem)
         if pairs:
             yield f"| {crate.name} | " + "; ".join(f"`{w}`: {', '.join(e)}" for w, e in sorted(pairs.items())) + " |"
 
