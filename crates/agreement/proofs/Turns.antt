@@ -18,7 +18,8 @@ use Rattle.agreement.proofs.Waiting.{waits, waits_same, waits_here, waits_there,
 use Rattle.agreement.proofs.Invariant.{Seen, says}
 
 module _ (w : World) (law : Lawful w) (st : State) where
-  -- a turn that changes only what waits: nothing new of correct processes, and all that waits for them stays
+  -- a turn that changes only what waits: nothing new of correct processes, and all that waits for
+  -- them stays
   plain : (u : Subject) (left : List Message) → ((k i : ℕ) (step : Step) (b : ℕ) → Correct w k → waits left k i step u b → waits st.waiting k i step u b) → ((k i : ℕ) (step : Step) (b : ℕ) → Correct w i → waits st.waiting k i step u b → waits left k i step u b) → Seen w u st (leaving left st)
   plain u left old kept = record {
     said_stays = λ b e. e;

@@ -44,7 +44,8 @@ pub record Lasts (st next : State) : Type 0 where
 abbrev pub Lasting : Type 0
 Lasting = (w : World) (st next : State) → Turn w st next → Lasts st next
 
--- a world of one process, and what may happen in it: process 0 told body 5 under serial 0, accepted it, and nothing waits for it
+-- a world of one process, and what may happen in it: process 0 told body 5 under serial 0, accepted
+-- it, and nothing waits for it
 abbrev pub alone : World
 alone = counted 1 0 1 1 1 (λ _. false)
 

@@ -1,5 +1,6 @@
--- What a process keeps of one broadcast, and what an arriving message makes of it: the rule of stage and step again, by which
--- bodies were sent. That code and machine do the same is shown with the rules of turns.
+-- What a process keeps of one broadcast, and what an arriving message makes of it: the rule of
+-- stage and step again, by which bodies were sent. That code and machine do the same is shown with
+-- the rules of turns.
 use Rattle.std.specs.Prelude.{ℕ, Bool, cond, Some, None, Option, ◌==◌, nat_le}
 use Rattle.protocol.specs.Heard.{has}
 use Rattle.protocol.specs.declared.messages.Step.{Step}
@@ -33,9 +34,10 @@ hear f k b j = when (j == k) (f j) b
 unfoldable pub support : World → (ℕ → Option ℕ) → ℕ → ℕ
 support w f b = w.weight (λ k. has (f k) b)
 
--- What a message with body b from process k makes of a record of process o's broadcast, before anything is accepted.
--- An initial is echoed if it is the originator's. An echo or a ready is heard; if its body then has enough support, the
--- process echoes it and sends ready for it, each unless it has done so for some body before. With more readies it accepts.
+-- What a message with body b from process k makes of a record of process o's broadcast, before
+-- anything is accepted. An initial is echoed if it is the originator's. An echo or a ready is
+-- heard; if its body then has enough support, the process echoes it and sends ready for it, each
+-- unless it has done so for some body before. With more readies it accepts.
 abbrev pub receive : World → ℕ → Step → ℕ → ℕ → Rec → Rec
 receive w o Initial k b r =
     record {

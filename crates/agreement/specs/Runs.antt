@@ -1,4 +1,5 @@
--- The machine: processes that broadcast, and any order of delivery. Its turns are relations, since what waits is a bag.
+-- The machine: processes that broadcast, and any order of delivery. Its turns are relations, since
+-- what waits is a bag.
 use Rattle.std.specs.Prelude.{◌≡◌, ℕ, ◌<◌, Bool, true, false, cond, ◌&&◌, List, [], ◌∷◌, ◌++◌, Some, None, Option, ◌==◌}
 use Rattle.protocol.specs.declared.messages.Message.{Message}
 use Rattle.protocol.specs.declared.messages.Step.{Step}

@@ -1,4 +1,5 @@
--- Who takes part, who is faulty, how sets of processes are weighed, and from which weight on a process acts.
+-- Who takes part, who is faulty, how sets of processes are weighed, and from which weight on a
+-- process acts.
 use Rattle.std.specs.Prelude.{◌≡◌, ℕ, ◌+◌, ◌<◌, ◌≤◌, Bool, true, false, ◌&&◌, ◌||◌}
 use Rattle.protocol.specs.Counting.{below}
 use Rattle.protocol.specs.Faults.{CorrectOf}

@@ -1,4 +1,5 @@
--- The ballots that a process has accepted in a case. Assumes nothing.
+-- The ballots that a process has accepted in a case. In a map of ballots rounds count from 0, in
+-- memory from 1.
 use Rattle.std.specs.Prelude.{◌≡◌, ℕ, suc, ◌-◌, Bool, true, false, cond, ◌&&◌, List, None, Option}
 use Rattle.protocol.specs.declared.votes.Ballot.{Ballot}
 use Rattle.protocol.specs.declared.messages.Subject.{Subject}

@@ -1,4 +1,5 @@
--- How a process goes on in a case. Assumes nothing.
+-- How a process goes on in a case. The round of a set counts from 0, the round that a process is
+-- in from 1.
 use Rattle.std.specs.Prelude.{◌≡◌, ℕ, ◌-◌, ◌*◌, ◌≤◌, Bool, true, cond, ◌&&◌, is_some, Some, None, Option, nat_le, nat_lt}
 use Rattle.protocol.specs.Counting.{below}
 use Rattle.protocol.specs.Numbers.{ballot_number, vote, proposal}

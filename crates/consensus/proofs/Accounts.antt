@@ -1,4 +1,5 @@
--- What follows for one case from how correct processes went through its rounds. Rounds count from 0 here.
+-- What follows for one case from how correct processes went through its rounds. Rounds count from 0
+-- here.
 use Rattle.std.proofs.Common.{◌≡◌, ℕ, zero, suc, ◌<◌, ◌≤◌, Bool, true, false, ◌⊎◌, Some, None, Option, sym, refl, ◌∙◌, subst, inl, inr, ⊎_elim, arith}
 use Rattle.std.proofs.lemmas.Bool.{both_ways, cases_Bool, cases_lt}
 use Rattle.agreement.proofs.Bodies.{none_some}
@@ -16,8 +17,8 @@ use Rattle.consensus.proofs.Sides.{third_late}
 use Rattle.consensus.proofs.Steps.{all_kept}
 use Rattle.consensus.proofs.Joins.{decisions, going}
 
--- How a process that has accepted A left round q: by a set, which forced and decided the sides that are told. Its next
--- ballot after a third round was the forced side or the coin's.
+-- How a process that has accepted A left round q: by a set, which forced and decided the sides that
+-- are told. Its next ballot after a third round was the forced side or the coin's.
 pub record Left (n t : ℕ) (A : BallotMap) (coin : Side) (q : ℕ) (next : Option ℕ) (forced decided : Side → Type 0) : Type 0 where
   -- the set, and that its ballots are valid
   pub by : ℕ → Bool
@@ -32,8 +33,8 @@ pub record Left (n t : ℕ) (A : BallotMap) (coin : Side) (q : ℕ) (next : Opti
   pub decides : (v : Side) → decided v → Decides t (tally n A q by) v
   pub decided_some : kind q ≡ Third → (v : Side) → Decides t (tally n A q by) v → (u : Side) × decided u
 
--- Process o has accepted own o, said said o r in round r, and is in the last of rounds o rounds; coin o r is what it
--- would toss in round r, and forced o r and decided o r are told of it.
+-- Process o has accepted own o, said said o r in round r, and is in the last of rounds o rounds;
+-- coin o r is what it would toss in round r, and forced o r and decided o r are told of it.
 pub record Account (n t last : ℕ) (faulty : ℕ → Bool) (coin : ℕ → ℕ → Side) (own : ℕ → BallotMap) (said : ℕ → ℕ → Option ℕ) (rounds : ℕ → ℕ) (forced decided : ℕ → ℕ → Side → Type 0) : Type 0 where
   -- correct processes accept alike, and of one another what was said
   pub alike : AcceptedAlike n faulty own
@@ -50,9 +51,11 @@ pub record Outcomes (n t last : ℕ) (faulty : ℕ → Bool) (coin : ℕ → ℕ
   pub agreement : (i j q r : ℕ) (u v : Side) → CorrectOf n faulty i → CorrectOf n faulty j → suc q < rounds i → suc r < rounds j → decided i q u → decided j r v → u ≡ v
   -- If all of them voted for v, it is v.
   pub validity : (v : Side) → ((o b : ℕ) → CorrectOf n faulty o → said o 0 ≡ Some b → b ≡ ballot_number (vote v)) → (i q : ℕ) (u : Side) → CorrectOf n faulty i → suc q < rounds i → decided i q u → u ≡ v
-  -- If round r forced them to no side but c, which the coin shows each of them, they decide c in every later third round.
+  -- If round r forced them to no side but c, which the coin shows each of them, they decide c in
+  -- every later third round.
   pub luck : (r : ℕ) (c : Side) → kind r ≡ Third → ((o : ℕ) → CorrectOf n faulty o → coin o r ≡ c) → ((o : ℕ) (v : Side) → CorrectOf n faulty o → suc r < rounds o → forced o r v → v ≡ c) → (j q : ℕ) → CorrectOf n faulty j → kind q ≡ Third → suc r < q → suc q < rounds j → decided j q c
-  -- If each of them has all that the others accepted and said, and none can leave its round, and all have begun, then all are past the last round.
+  -- If each of them has all that the others accepted and said, and none can leave its round, and
+  -- all have begun, then all are past the last round.
   pub ending : ((i k : ℕ) → CorrectOf n faulty i → CorrectOf n faulty k → Part (own k) (own i)) → ((i k r b : ℕ) → CorrectOf n faulty i → CorrectOf n faulty k → r < last → said k r ≡ Some b → own i k r ≡ Some b) → ((i r : ℕ) (S : ℕ → Bool) → CorrectOf n faulty i → rounds i ≡ suc r → r < last → Quorum n t (own i) r S → ⊥) → ((i : ℕ) → CorrectOf n faulty i → 0 < rounds i) → (i : ℕ) → CorrectOf n faulty i → last < rounds i
 
 empty_forces : (n t : ℕ) (A : BallotMap) (r : ℕ) (v : Side) → Forces t (tally n A r (λ _. false)) v → ⊥

@@ -1,4 +1,4 @@
--- What holds of valid ballots and of decisions.
+-- What holds of valid ballots and of decisions. Rounds count from 0 here.
 use Rattle.std.specs.Prelude.{◌≡◌, ℕ, suc, ◌-◌, ◌*◌, ◌<◌, ◌≤◌, Bool, true, ◌⊎◌, Some, nat_eq}
 use Rattle.protocol.specs.declared.votes.Side.{Side}
 use Rattle.protocol.specs.declared.votes.Ballot.{Ballot}
@@ -31,7 +31,8 @@ pub record OneSide (n t : ℕ) (G : BallotMap) (r : ℕ) : Type 0 where
 abbrev pub Proposals : Type 0
 Proposals = (n t : ℕ) (G : BallotMap) (r : ℕ) → OneSide n t G r
 
--- Once one set of a third round decides v, every set of the round forces v, and the next round has no other side.
+-- Once one set of a third round decides v, every set of the round forces v, and the next round has
+-- no other side.
 pub record Locked (n t : ℕ) (G : BallotMap) (r : ℕ) (v : Side) : Type 0 where
   pub forced : (S : ℕ → Bool) → Quorum n t G r S → Forces t (tally n G r S) v
   pub next : (o b : ℕ) → Valid n t G (suc r) o b → b ≡ ballot_number (vote v)
@@ -40,7 +41,8 @@ pub record Locked (n t : ℕ) (G : BallotMap) (r : ℕ) (v : Side) : Type 0 wher
 abbrev pub Locking : Type 0
 Locking = (n t : ℕ) (G : BallotMap) (r : ℕ) → kind r ≡ Third → (S : ℕ → Bool) (v : Side) → Quorum n t G r S → Decides t (tally n G r S) v → Locked n t G r v
 
--- Every valid ballot of round r speaks for v, and if it is a third round, every set forces and decides v, and no other.
+-- Every valid ballot of round r speaks for v, and if it is a third round, every set forces and
+-- decides v, and no other.
 pub record Settled (n t : ℕ) (G : BallotMap) (r : ℕ) (v : Side) : Type 0 where
   pub ballots : (o b : ℕ) → Valid n t G r o b → b ≡ ballot_number (ballot_for (kind r) v)
   pub forced : kind r ≡ Third → (S : ℕ → Bool) → Quorum n t G r S → Forces t (tally n G r S) v
@@ -63,13 +65,14 @@ UnanimityDecides = (n t : ℕ) (faulty : ℕ → Bool) → Resilient n t faulty 
 abbrev pub DecisionsAgree : Type 0
 DecisionsAgree = (n t : ℕ) → 3 * t < n → (G A B : BallotMap) → Part A G → Part B G → (q r : ℕ) → kind q ≡ Third → kind r ≡ Third → (S T : ℕ → Bool) (u v : Side) → Quorum n t A q S → Quorum n t B r T → Decides t (tally n A q S) u → Decides t (tally n B r T) v → u ≡ v
 
--- What a process says after a third round, by the counts of the set that it went by: the side that the set forces, and
--- if it forces none, the coin's side c.
+-- What a process says after a third round, by the counts of the set that it went by: the side that
+-- the set forces, and if it forces none, the coin's side c.
 abbrev pub Tossed : ℕ → (Ballot → ℕ) → Side → ℕ → Type 0
 Tossed t count c b =
     ((v : Side) × Forces t count v × (b ≡ ballot_number (vote v))) ⊎ (((v : Side) → count (proposal v) ≤ t) × (b ≡ ballot_number (vote c)))
 
--- If the sets that correct processes went by force no side but the coin's, all later rounds are settled.
+-- If the sets that correct processes went by force no side but the coin's, all later rounds are
+-- settled.
 abbrev pub LuckSettles : Type 0
 LuckSettles = (n t : ℕ) (faulty : ℕ → Bool) → Resilient n t faulty → (G : BallotMap) (r : ℕ) (c : Side) (counts : ℕ → Ballot → ℕ) → kind r ≡ Third → ((o b : ℕ) → CorrectOf n faulty o → Valid n t G (suc r) o b → Tossed t (counts o) c b) → ((o : ℕ) (v : Side) → CorrectOf n faulty o → Forces t (counts o) v → v ≡ c) → (q : ℕ) → suc r < q → Settled n t G q c
 
@@ -86,7 +89,8 @@ Lowest = (n t : ℕ) (A : BallotMap) (r : ℕ) (p : ℕ → Bool) → ((k : ℕ)
 abbrev pub Enough : Type 0
 Enough = (n t : ℕ) (faulty : ℕ → Bool) → Resilient n t faulty → (A : BallotMap) (r : ℕ) → ((k : ℕ) → CorrectOf n faulty k → (b : ℕ) × Valid n t A r k b) → (S : ℕ → Bool) × CanAdvance n t A r S
 
--- four processes, of which the last is faulty and silent, and a set of their third round that decides v
+-- four processes, of which the last is faulty and silent, and a set of their third round that
+-- decides v
 pub record DecisionHappens (v : Side) (G : BallotMap) (S : ℕ → Bool) : Type 0 where
   pub resilient : Resilient 4 1 (λ k. nat_eq k 3)
   pub unanimous : Unanimous 4 1 (λ k. nat_eq k 3) G 0 v

@@ -1,4 +1,4 @@
--- The maps that correct processes have of one case are parts of one map.
+-- The maps that correct processes have of one case are parts of one map. Rounds count from 0 here.
 use Rattle.std.specs.Prelude.{◌≡◌, ℕ, suc, ◌<◌, Bool, Some}
 use Rattle.protocol.specs.declared.votes.Side.{Side}
 use Rattle.protocol.specs.Numbers.{ballot_number, vote}
@@ -32,8 +32,8 @@ pub record DecidesBy (n t : ℕ) (own : ℕ → BallotMap) (i r : ℕ) (S : ℕ 
 abbrev pub Votes : ℕ → (ℕ → Bool) → (ℕ → BallotMap) → ℕ → Side → Type 0
 Votes n faulty own r v = (i o b : ℕ) → CorrectOf n faulty i → CorrectOf n faulty o → own i o r ≡ Some b → b ≡ ballot_number (vote v)
 
--- Each correct process o left the third round r by the set used o: its next ballot is the side that the set forces, or
--- else c, and no such set forces another side than c.
+-- Each correct process o left the third round r by the set used o: its next ballot is the side that
+-- the set forces, or else c, and no such set forces another side than c.
 pub record Lucky (n t : ℕ) (faulty : ℕ → Bool) (own : ℕ → BallotMap) (r : ℕ) (used : ℕ → ℕ → Bool) (c : Side) : Type 0 where
   pub said : (i o b : ℕ) → CorrectOf n faulty i → CorrectOf n faulty o → own i o (suc r) ≡ Some b → Tossed t (tally n (own o) r (used o)) c b
   pub forced : (o : ℕ) (v : Side) → CorrectOf n faulty o → Forces t (tally n (own o) r (used o)) v → v ≡ c
@@ -53,7 +53,7 @@ pub record OwnDecisions (n t : ℕ) (faulty : ℕ → Bool) (own : ℕ → Ballo
 abbrev pub Deciding : Type 0
 Deciding = (n t : ℕ) (faulty : ℕ → Bool) (own : ℕ → BallotMap) → Resilient n t faulty → AcceptedAlike n faulty own → OwnDecisions n t faulty own
 
--- Where process i has all that correct processes accepted, and of each a ballot of round r that this one may say, it
--- can advance from round r.
+-- Where process i has all that correct processes accepted, and of each a ballot of round r that
+-- this one may say, it can advance from round r.
 abbrev pub Going : Type 0
 Going = (n t : ℕ) (faulty : ℕ → Bool) (own : ℕ → BallotMap) → Resilient n t faulty → (i r : ℕ) → ((k : ℕ) → CorrectOf n faulty k → Part (own k) (own i)) → ((k : ℕ) → CorrectOf n faulty k → (b : ℕ) × Justified n t (own k) r b × (own i k r ≡ Some b)) → (S : ℕ → Bool) × CanAdvance n t (own i) r S

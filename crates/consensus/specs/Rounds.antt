@@ -1,4 +1,5 @@
--- The ballots of one case, round by round, and what a set of ballots says of the next round. Rounds count from 0 here.
+-- The ballots of one case, round by round, and what a set of ballots says of the next round. Rounds
+-- count from 0 here.
 use Rattle.std.specs.Prelude.{◌≡◌, ℕ, ◌*◌, ◌<◌, ◌≤◌, Bool, cond, ◌&&◌, ◌⊎◌, Option, nat_lt}
 use Rattle.protocol.specs.declared.votes.Side.{Side}
 use Rattle.protocol.specs.declared.votes.Side.TheVariants as side

@@ -1,4 +1,4 @@
--- Which accepted ballots are valid.
+-- Which accepted ballots are valid. Rounds count from 0 here.
 use Rattle.std.specs.Prelude.{◌≡◌, ℕ, zero, suc, ◌-◌, ◌*◌, ◌<◌, ◌≤◌, Bool, true, ◌&&◌, Some, nat_lt}
 use Rattle.protocol.specs.declared.votes.Side.{Side}
 use Rattle.protocol.specs.Counting.{below}
@@ -19,7 +19,8 @@ IsVote b = (v : Side) × (b ≡ ballot_number (vote v))
 abbrev pub Backed : ℕ → ℕ → BallotMap → (ℕ → ℕ → Type 0) → ℕ → ℕ → Type 0
 Backed n t G V r b = (S : ℕ → Bool) × FullSet n t V S × Allows n t (kind r) (tally n G r S) b
 
--- In round r, G has the valid ballot b of process o: in round 0 a vote, later one that valid ballots of the round before back.
+-- In round r, G has the valid ballot b of process o: in round 0 a vote, later one that valid
+-- ballots of the round before back.
 unfoldable pub Valid : ℕ → ℕ → BallotMap → ℕ → ℕ → ℕ → Type 0
 Valid n t G zero o b = (G o zero ≡ Some b) × IsVote b
 Valid n t G (suc r) o b = (G o (suc r) ≡ Some b) × Backed n t G (Valid n t G r) r b

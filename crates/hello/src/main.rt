@@ -1,5 +1,5 @@
-//! Four counters, of which one is strange: an item is announced and read, a case is decided, and its slip is used.
-//! Writes to standard output.
+//! Four counters, of which one is strange: an item is announced and read, a case is decided, and
+//! its slip is used. Writes to standard output.
 #![tactic(auto)]
 
 use carrier::Carrier;
@@ -17,7 +17,8 @@ use slips::{hand_over, issue};
 const PLACES: usize = 256;
 
 fn main(rt: HostRuntime) -> anyhow::Result<()> {
-    // Four processes of which one may be faulty, one serial each, one case of two phases. `plan.needs()` tells the four lengths.
+    // Four processes of which one may be faulty, one serial each, one case of two phases.
+    // `plan.needs()` tells the four lengths.
     let plan = Plan::new(4, 1, 1, 1, 2)?;
     let mut memory = Memory {
         broadcasts: &mut [BroadcastRecord::SILENT; 112],
@@ -85,8 +86,8 @@ fn decide_a_case<C: Carrier>(
     Ok(())
 }
 
-// Each process gets what waits for it, the oldest first. The loop has to be seen to end, so it is counted: the carrier has no more
-// places.
+// Each process gets what waits for it, the oldest first. The loop has to be seen to end, so it is
+// counted: the carrier has no more places.
 fn deliver_all<C: Carrier>(
     line: &Line,
     memory: &mut Memory,

@@ -1,4 +1,4 @@
--- Nine worked rows: what the definitions give for numbers that can be followed by hand. Assumes nothing.
+-- Nine worked rows: what the definitions give for numbers that can be followed by hand.
 use Rattle.std.specs.Prelude.{◌≡◌, ℕ, List, [], ◌∷◌, Some, None, Ok, Err, Option, Result}
 use Rattle.protocol.specs.Numbers.{vote}
 use Rattle.protocol.specs.declared.refusals.Refusal.{Refusal}
@@ -17,9 +17,11 @@ use Rattle.cases.specs.Steps.{step_by}
 pub data Row : Type 0 where
   -- n and t have the thresholds echo, ready and accept
   sheet : (n t echo ready accept : ℕ) → Row
-  -- by so many keeps, releases, proposals to keep and to release, and open ballots, a process says next, is forced and decides
+  -- by so many keeps, releases, proposals to keep and to release, and open ballots, a process says
+  -- next, is forced and decides
   step : (n t : ℕ) (round : Kind) (keeps releases propose_keep propose_release opens : ℕ) (next : Option Ballot) (forced decides : Option Side) → Row
-  -- for either side: by so many of its proposals, and so many open ballots, a process says next, is forced and decides
+  -- for either side: by so many of its proposals, and so many open ballots, a process says next, is
+  -- forced and decides
   third : (n t proposals opens : ℕ) (next : Side → Option Ballot) (forced decides : Side → Option Side) → Row
   -- the record of these fields has this body
   body : (kind colour station day shelf packed : ℕ) → Row
