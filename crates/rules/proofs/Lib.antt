@@ -12,3 +12,5 @@ pub mod Steps
 pub mod Told
 pub mod Theorem
 pub mod Example
+pub mod Draining
+pub mod Withstanding

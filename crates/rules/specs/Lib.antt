@@ -1,4 +1,5 @@
 pub mod Turns
 pub mod Runs
 pub mod Promises
+pub mod Withstood
 pub mod Answers

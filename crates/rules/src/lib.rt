@@ -8,6 +8,7 @@ ghost use Rattle.std.specs.Prelude.{ℕ, List};
 ghost use Rattle.plan.specs.Kinds.{Line};
 ghost use Rattle.memory.specs.Contents.{Held};
 ghost use Rattle.rules.specs.Promises.{Happening, PromisesKept};
+ghost use Rattle.rules.specs.Withstood.{Withstood};
 ghost use Rattle.rules.specs.Turns.{Coin};
 ghost use Rattle.rules.specs.Runs.{Event};
 
@@ -22,4 +23,10 @@ pub fn runs_keep_promises()
 // All that these promises speak of comes about in some run, with room for three messages.
 pub fn runs_happen()
     ensures { (line : Line) × (coin : Coin) × (es : List Event) × (h : Held) × Happening line 3 coin es h }
+{}
+
+/// And with a faulty process among four, with room for 32 messages: it tells another process what
+/// was not announced, and at rest all correct processes have accepted what was.
+pub fn runs_with_faults_happen()
+    ensures { (line : Line) × (coin : Coin) × (es : List Event) × (h : Held) × Withstood 4 1 line 32 coin es h }
 {}
