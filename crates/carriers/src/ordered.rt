@@ -1,5 +1,6 @@
 // A carrier that keeps messages in order of posting, and takes one of those for a process by a rule.
-ghost use Rattle.std.specs.Prelude.{◌≡◌, [], ◌∷◌, ◌++◌, length};
+ghost use Rattle.std.specs.Prelude.{◌≡◌, [], ◌∷◌, ◌++◌, length, IfOk, OnErr, OnOk};
+ghost use Rattle.carrier.specs.Waiting.{Posted, Taken};
 ghost use Rattle.row.specs.Order.{listed, room, listed_fits, TookAt};
 
 use crate::choices::{Choice, Newest, Oldest, Picked};
@@ -55,11 +56,21 @@ impl<'a, K: Choice> Carrier for Ordered<'a, K> {
         self.row.waiting_for(process)
     }
 
-    fn post(&mut self, message: Message) -> Result<(), Refusal> {
+    fn post(&mut self, message: Message) -> Result<(), Refusal>
+        ensures kept { room self.new.row ≡ room self.old.row }
+        ensures posted { Posted result message (room self.old.row) (listed self.old.row) (listed self.new.row) }
+        ensures told { OnOk result (listed self.new.row ≡ listed self.old.row ++ (message ∷ [])) }
+        ensures untouched { OnErr result (self.new ≡ self.old) }
+    {
         self.row.post(message)
     }
 
-    fn take(&mut self, process: u64, pick: u64) -> Result<Message, Refusal> {
+    fn take(&mut self, process: u64, pick: u64) -> Result<Message, Refusal>
+        ensures kept { room self.new.row ≡ room self.old.row }
+        ensures taken { Taken result process (listed self.old.row) (listed self.new.row) }
+        ensures told { IfOk result (λ m. TookAt process (K.number process pick (listed self.old.row)) (listed self.old.row) m (listed self.new.row)) }
+        ensures untouched { OnErr result (self.new ≡ self.old) }
+    {
         let number = K::number(&self.row, process, pick);
         self.row.take(process, number)
     }

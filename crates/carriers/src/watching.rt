@@ -1,5 +1,6 @@
 // A layer carries as what lies below it does.
-ghost use Rattle.std.specs.Prelude.{◌≡◌, Some};
+ghost use Rattle.std.specs.Prelude.{◌≡◌, Some, OnErr, OnOk, IfOk};
+ghost use Rattle.carrier.specs.Waiting.{Posted, Taken};
 
 use crate::watches::Watch;
 use carrier::Carrier;
@@ -24,11 +25,21 @@ impl<C: Carrier> Carrier for Watch<C> {
         self.below.waiting_for(process)
     }
 
-    fn post(&mut self, message: Message) -> Result<(), Refusal> {
+    fn post(&mut self, message: Message) -> Result<(), Refusal>
+        ensures kept { C.capacity self.new.below ≡ C.capacity self.old.below }
+        ensures posted { Posted result message (C.capacity self.old.below) (C.waiting self.old.below) (C.waiting self.new.below) }
+        ensures told { OnOk result ((C.posting self.old.below message self.new.below) × (self.new.last ≡ self.old.last)) }
+        ensures refused { OnErr result (self.new.last ≡ self.old.last) }
+    {
         self.below.post(message)
     }
 
-    fn take(&mut self, process: u64, pick: u64) -> Result<Message, Refusal> {
+    fn take(&mut self, process: u64, pick: u64) -> Result<Message, Refusal>
+        ensures kept { C.capacity self.new.below ≡ C.capacity self.old.below }
+        ensures taken { Taken result process (C.waiting self.old.below) (C.waiting self.new.below) }
+        ensures told { IfOk result (λ m. (C.taking self.old.below process pick m self.new.below) × (self.new.last ≡ Some m)) }
+        ensures refused { OnErr result (self.new.last ≡ self.old.last) }
+    {
         let message = self.below.take(process, pick)?;
         self.last = Some(message);
         Ok(message)

@@ -1,5 +1,5 @@
 // Messages over lent memory, in order of posting.
-ghost use Rattle.std.specs.Prelude.{◌≡◌, ◌-◌, ◌<◌, ◌≤◌, Some, [], length};
+ghost use Rattle.std.specs.Prelude.{◌≡◌, ◌-◌, ◌<◌, ◌≤◌, Some, [], length, OnErr};
 ghost use Rattle.std.specs.List.{remove, slice_get};
 ghost use Rattle.carrier.specs.Waiting.{capped, Posted};
 ghost use Rattle.protocol.specs.Bags.{waiting_for};
@@ -58,6 +58,7 @@ impl<'a> Row<'a> {
         ensures room { room self.new ≡ room self.old }
         ensures posted { Posted result message (room self.old) (listed self.old) (listed self.new) }
         ensures order { listed self.new ≡ pushed result (listed self.old) message }
+        ensures untouched { OnErr result (self.new ≡ self.old) }
     {
         if self.held == self.places.len() {
             return Err(Refusal::NoRoom);
@@ -96,6 +97,7 @@ impl<'a> Row<'a> {
         ensures room { room self.new ≡ room self.old }
         ensures answer { result ≡ answer_at process number (listed self.old) }
         ensures left { listed self.new ≡ left_at process number (listed self.old) }
+        ensures untouched { OnErr result (self.new ≡ self.old) }
     {
         let at = self.find(process, number).ok_or(Refusal::NothingWaiting)?;
         Ok(self.remove(at))

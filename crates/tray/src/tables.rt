@@ -1,5 +1,5 @@
 // The messages that a tray keeps itself: putting them into the places of a table and taking them out.
-ghost use Rattle.std.specs.Prelude.{◌≡◌, ◌-◌, [], length};
+ghost use Rattle.std.specs.Prelude.{◌≡◌, ◌-◌, [], length, OnErr};
 ghost use Rattle.std.specs.List.{position};
 ghost use Rattle.carrier.specs.Waiting.{Posted, Taken};
 ghost use Rattle.protocol.specs.Bags.{waiting_for};
@@ -60,7 +60,8 @@ impl Table {
 
     // Keeps the message in the first free place.
     pub fn post(&mut self, message: Message) -> Result<(), Refusal>
-        ensures { Posted result message 8 (kept self.old.places) (kept self.new.places) }
+        ensures posted { Posted result message 8 (kept self.old.places) (kept self.new.places) }
+        ensures untouched { OnErr result (self.new ≡ self.old) }
     {
         let at = self.first_free().ok_or(Refusal::NoRoom)?;
         self.places[at] = Some(message);
@@ -69,7 +70,8 @@ impl Table {
 
     // Takes the message for the process that stands first.
     pub fn take(&mut self, process: u64) -> Result<Message, Refusal>
-        ensures { Taken result process (kept self.old.places) (kept self.new.places) }
+        ensures taken { Taken result process (kept self.old.places) (kept self.new.places) }
+        ensures untouched { OnErr result (self.new ≡ self.old) }
     {
         let at = self.first_for(process).ok_or(Refusal::NothingWaiting)?;
         Ok(self.places[at].take().unwrap())

@@ -1,5 +1,6 @@
 // A tray over a carrier.
-ghost use Rattle.std.specs.Prelude.{◌≡◌, ◌+◌, [], ◌++◌};
+ghost use Rattle.std.specs.Prelude.{◌≡◌, ◌+◌, [], ◌++◌, OnErr};
+ghost use Rattle.carrier.specs.Waiting.{Posted, Taken};
 ghost use Rattle.tray.specs.Tables.{kept};
 ghost use Rattle.tray.specs.Layers.{both_fit};
 
@@ -47,14 +48,22 @@ impl<C: Carrier> Carrier for Tray<C> {
             .saturating_add(self.table.waiting_for(process))
     }
 
-    fn post(&mut self, message: Message) -> Result<(), Refusal> {
+    fn post(&mut self, message: Message) -> Result<(), Refusal>
+        ensures kept { 8 + C.capacity self.new.below ≡ 8 + C.capacity self.old.below }
+        ensures posted { Posted result message (8 + C.capacity self.old.below) (kept self.old.table.places ++ C.waiting self.old.below) (kept self.new.table.places ++ C.waiting self.new.below) }
+        ensures refused { OnErr result (self.new.table ≡ self.old.table) }
+    {
         match self.table.post(message) {
             Ok(()) => Ok(()),
             Err(_) => self.below.post(message),
         }
     }
 
-    fn take(&mut self, process: u64, pick: u64) -> Result<Message, Refusal> {
+    fn take(&mut self, process: u64, pick: u64) -> Result<Message, Refusal>
+        ensures kept { 8 + C.capacity self.new.below ≡ 8 + C.capacity self.old.below }
+        ensures taken { Taken result process (kept self.old.table.places ++ C.waiting self.old.below) (kept self.new.table.places ++ C.waiting self.new.below) }
+        ensures refused { OnErr result (self.new.table ≡ self.old.table) }
+    {
         match self.table.take(process) {
             Ok(message) => Ok(message),
             Err(_) => self.below.take(process, pick),

@@ -6,15 +6,15 @@ use Rattle.tray.specs.Tables.{is_free}
 use Rattle.tray.proofs.Kept.{kept_all, count_free, none_counted, added}
 use Rattle.tray.proofs.tables.Table.post.Goals as goal
 
-pub returns-in_err-at : goal.returns-in_err-at
-returns-in_err-at c =
+pub returns-in_err-at-clause-posted : goal.returns-in_err-at-clause-posted
+returns-in_err-at-clause-posted c =
     let ps = c.args.self.now.places in
     let none : position is_free ps ≡ None = search rules in
     let err : c.from_residual.result ≡ Err NoRoom = search rules in
     rw err (record { why = refl; full = omega (arith, none_counted is_free ps none, count_free ps, ap length (kept_all ps (omega arith))); same = refl })
 
-pub returns : goal.returns
-returns c =
+pub returns-clause-posted : goal.returns-clause-posted
+returns-clause-posted c =
     let ps = c.args.self.now.places in
     let at = c.in_ok-at.at in
     let some : position is_free ps ≡ Some at = search rules in

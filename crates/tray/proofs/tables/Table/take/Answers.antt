@@ -7,8 +7,8 @@ use Rattle.tray.specs.Tables.{is_for}
 use Rattle.tray.proofs.Kept.{kept_all, count_for, none_counted, held, taken}
 use Rattle.tray.proofs.tables.Table.take.Goals as goal
 
-pub returns-in_err-at : goal.returns-in_err-at
-returns-in_err-at c =
+pub returns-in_err-at-clause-taken : goal.returns-in_err-at-clause-taken
+returns-in_err-at-clause-taken c =
     let ps = c.args.self.now.places in
     let process = c.args.process in
     let none : position (is_for process) ps ≡ None = search rules in
@@ -23,8 +23,8 @@ unwrap-requires c =
     let found = position-Some (is_for c.args.process) ps c.in_ok-at.at c.index-self-at.result some in
     rw c.take.ensures.value (held ps (omega arith) c.in_ok-at.at c.index-self-at.result found.0 c.args.process found.1)
 
-pub returns : goal.returns
-returns c =
+pub returns-clause-taken : goal.returns-clause-taken
+returns-clause-taken c =
     let ps = c.args.self.now.places in
     let at = c.in_ok-at.at in
     let some : position (is_for c.args.process) ps ≡ Some at = search rules in
