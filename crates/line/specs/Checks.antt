@@ -1,12 +1,12 @@
 -- What the first tests of a call answer. Assumes nothing.
-use Rattle.std.specs.Prelude.{◌≡◌, ℕ, ◌<◌, ◌≤◌, true, false, List, Some, Ok, Err, Option, Result}
+use Rattle.std.specs.Prelude.{◌≡◌, ℕ, ◌<◌, ◌≤◌, true, false, List, Some, None, Ok, Err, Option, Result}
 use Rattle.protocol.specs.declared.messages.Message.{Message}
 use Rattle.protocol.specs.declared.messages.Subject.{Subject}
 use Rattle.protocol.specs.declared.refusals.Refusal.{Refusal}
 use Rattle.protocol.specs.declared.refusals.Refusal.TheVariants.{NoRoom}
 use Rattle.plan.specs.Kinds.{Line}
 use Rattle.carrier.specs.Waiting.{free_in}
-use Rattle.rules.specs.Turns.{room_for_replies, delivery_tests, room_for_ballot}
+use Rattle.rules.specs.Turns.{room_for_ballot}
 
 -- the answer to a row of tests: all hold, and the rest says whether the call is refused; or the first that does not hold
 abbrev pub TestsAnswer : Result (Unit {0}) Refusal → (Option Refusal → Option Refusal) → Type 0
@@ -18,10 +18,10 @@ abbrev pub RoomForAll : Result (Unit {0}) Refusal → Line → ℕ → List Mess
 RoomForAll (Ok _) line capacity ws = line.plan.n ≤ free_in capacity ws
 RoomForAll (Err e) line capacity ws = (e ≡ NoRoom) × (free_in capacity ws < line.plan.n)
 
--- there is room for all that a delivery may make a process send; or a delivery is refused, for want of a message before want of room
-abbrev pub RoomForReplies : Result (Unit {0}) Refusal → Line → ℕ → ℕ → List Message → Type 0
-RoomForReplies (Ok _) line i capacity ws = room_for_replies line i capacity ws ≡ true
-RoomForReplies (Err e) line i capacity ws = delivery_tests line i capacity ws ≡ Some e
+-- the answer to the last tests of a call: all hold, or the first that does not
+abbrev pub LastTestsAnswer : Result (Unit {0}) Refusal → Option Refusal → Type 0
+LastTestsAnswer (Ok _) tests = tests ≡ None
+LastTestsAnswer (Err e) tests = tests ≡ Some e
 
 -- there is room for the next ballot, if there is one, or there is not
 abbrev pub RoomForBallot : Result (Unit {0}) Refusal → Line → Option Subject → ℕ → List Message → Type 0

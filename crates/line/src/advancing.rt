@@ -1,5 +1,5 @@
 // Advancing in a case.
-ghost use Rattle.std.specs.Prelude.{◌≡◌, ◌+◌, ◌<◌, true, length, IfSome};
+ghost use Rattle.std.specs.Prelude.{◌≡◌, ◌+◌, ◌<◌, true, length, IfSome, OnErr};
 ghost use Rattle.protocol.specs.Messages.{originator_of};
 ghost use Rattle.memory.specs.Contents.{held};
 ghost use Rattle.rules.specs.Answers.{Advancement};
@@ -29,6 +29,7 @@ pub fn advance<C: Carrier, K: Coin>(
 ) -> Result<Advanced, Refusal>
     ensures turn { Advancement line.now (C.capacity carrier.old) (held memory.old) (C.waiting carrier.old) C.posting C.taking (K.shows coin.now) process case result carrier.old (held memory.new) (C.waiting carrier.new) carrier.new }
     ensures kept { C.capacity carrier.new ≡ C.capacity carrier.old }
+    ensures untouched { OnErr result (carrier.new ≡ carrier.old) }
 {
     check_correct(line, memory, process)?;
     let at = find_case(line, process, case)?;

@@ -1,5 +1,5 @@
 // Announcing an item.
-ghost use Rattle.std.specs.Prelude.{◌≡◌, IfOk, OnOk};
+ghost use Rattle.std.specs.Prelude.{◌≡◌, IfOk, OnErr, OnOk};
 ghost use Rattle.carrier.specs.Posting.{Posts};
 ghost use Rattle.memory.specs.Contents.{held};
 ghost use Rattle.rules.specs.Turns.{initials};
@@ -25,6 +25,7 @@ pub fn announce<C: Carrier, I: Item>(
 ) -> Result<Announced, Refusal>
     ensures turn { Announcement line.now (C.capacity carrier.old) (held memory.old) (C.waiting carrier.old) process (I.packed value.now) result (held memory.new) (C.waiting carrier.new) }
     ensures kept { C.capacity carrier.new ≡ C.capacity carrier.old }
+    ensures untouched { OnErr result (carrier.new ≡ carrier.old) }
     ensures fits { OnOk result (I.ok value.now) }
     ensures order { IfOk result (λ a. Posts C.posting carrier.old (initials line.now process a.serial (I.packed value.now)) carrier.new) }
 {

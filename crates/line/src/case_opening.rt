@@ -1,5 +1,5 @@
 // Opening a case.
-ghost use Rattle.std.specs.Prelude.{◌≡◌, OnOk};
+ghost use Rattle.std.specs.Prelude.{◌≡◌, OnErr, OnOk};
 ghost use Rattle.carrier.specs.Posting.{Posts};
 ghost use Rattle.memory.specs.Contents.{held};
 ghost use Rattle.rules.specs.Turns.{first_ballots};
@@ -24,6 +24,7 @@ pub fn open_case<C: Carrier>(
 ) -> Result<u64, Refusal>
     ensures turn { CaseOpening line.now (C.capacity carrier.old) (held memory.old) (C.waiting carrier.old) process case vote result (held memory.new) (C.waiting carrier.new) }
     ensures kept { C.capacity carrier.new ≡ C.capacity carrier.old }
+    ensures untouched { OnErr result (carrier.new ≡ carrier.old) }
     ensures order { OnOk result (Posts C.posting carrier.old (first_ballots line.now process case vote) carrier.new) }
 {
     check_correct(line, memory, process)?;

@@ -1,9 +1,9 @@
 // Delivering a message.
-ghost use Rattle.std.specs.Prelude.{◌≡◌, ◌*◌, length};
+ghost use Rattle.std.specs.Prelude.{◌≡◌, ◌*◌, length, OnErr};
 ghost use Rattle.memory.specs.Contents.{held};
-ghost use Rattle.rules.specs.Turns.{replies};
+ghost use Rattle.rules.specs.Turns.{delivery_tests, replies};
 ghost use Rattle.rules.specs.Answers.{Delivery};
-ghost use Rattle.line.specs.Checks.{RoomForReplies};
+ghost use Rattle.line.specs.Checks.{LastTestsAnswer};
 ghost use Rattle.line.specs.Sent.{Sent, HasRoom};
 
 use crate::checks::check_process;
@@ -25,10 +25,11 @@ pub fn deliver<C: Carrier>(
 ) -> Result<Delivered, Refusal>
     ensures turn { Delivery line.now (C.capacity carrier.old) (held memory.old) (C.waiting carrier.old) C.posting C.taking process pick result carrier.old (held memory.new) (C.waiting carrier.new) carrier.new }
     ensures kept { C.capacity carrier.new ≡ C.capacity carrier.old }
+    ensures untouched { OnErr result (carrier.new ≡ carrier.old) }
 {
     check_process(line, memory, process)?;
-    check_room_for_replies(line, carrier, process)?;
-    let message = carrier.take(process, pick)?;
+    check_delivery(line, carrier, process)?;
+    let message = carrier.take(process, pick).unwrap();
     if line.is_faulty(process) {
         return Ok(Delivered {
             posted: 0,
@@ -43,17 +44,17 @@ pub fn deliver<C: Carrier>(
     })
 }
 
-// A correct process may have to send to all twice. Only where room for that is missing is it asked whether a message waits at all.
-fn check_room_for_replies<C: Carrier>(line: &Line, carrier: &C, process: u64) -> Result<(), Refusal>
-    ensures { RoomForReplies result line.now process (C.capacity carrier.now) (C.waiting carrier.now) }
+// Refused where nothing waits for the process, and where a correct one may have to send more than there is room for.
+fn check_delivery<C: Carrier>(line: &Line, carrier: &C, process: u64) -> Result<(), Refusal>
+    ensures { LastTestsAnswer result (delivery_tests line.now process (C.capacity carrier.now) (C.waiting carrier.now)) }
 {
-    if line.is_faulty(process) || u64::from(carrier.free()) >= 2 * line.plan().n() {
-        return Ok(());
-    }
     if carrier.waiting_for(process) == 0 {
         return Err(Refusal::NothingWaiting);
     }
-    Err(Refusal::NoRoom)
+    if !line.is_faulty(process) && u64::from(carrier.free()) < 2 * line.plan().n() {
+        return Err(Refusal::NoRoom);
+    }
+    Ok(())
 }
 
 // Sends what the reaction says, and answers how many messages these are.

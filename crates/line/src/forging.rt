@@ -1,5 +1,5 @@
 // Forging a message.
-ghost use Rattle.std.specs.Prelude.{◌≡◌, [], ◌∷◌, OnOk};
+ghost use Rattle.std.specs.Prelude.{◌≡◌, [], ◌∷◌, OnErr, OnOk};
 ghost use Rattle.carrier.specs.Posting.{Posts};
 ghost use Rattle.memory.specs.Contents.{held};
 ghost use Rattle.rules.specs.Answers.{Forgery};
@@ -19,6 +19,7 @@ pub fn forge<C: Carrier>(
 ) -> Result<u64, Refusal>
     ensures turn { Forgery line.now (C.capacity carrier.old) (held memory.now) (C.waiting carrier.old) message result (held memory.now) (C.waiting carrier.new) }
     ensures kept { C.capacity carrier.new ≡ C.capacity carrier.old }
+    ensures untouched { OnErr result (carrier.new ≡ carrier.old) }
     ensures order { OnOk result (Posts C.posting carrier.old (message ∷ []) carrier.new) }
 {
     let plan = line.plan();
@@ -32,6 +33,9 @@ pub fn forge<C: Carrier>(
     if !is_within(&plan, message.subject()) {
         return Err(Refusal::SubjectOutOfPlan);
     }
-    carrier.post(message)?;
+    if carrier.free() == 0 {
+        return Err(Refusal::NoRoom);
+    }
+    carrier.post(message).unwrap();
     Ok(1)
 }

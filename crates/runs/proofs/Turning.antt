@@ -17,11 +17,11 @@ module _ {C I : Type 0} {waiting : C → List Message} {posting : C → Message 
   pub done_turn : (event : Event) → turn_of event ≡ asked packed asks → Occurs waiting posting taking line coin h capacity event before next after → Fits ok asks (answer_of event) → Performed waiting posting taking line coin h ok packed capacity turn (answer_of event) before next after
   done_turn event told occurs fits = record { event = event; told = told ∙ ap (asked packed) (sym is); answer = refl; occurs = occurs; fits = subst (λ t. Fits ok t (answer_of event)) (sym is) fits }
 
-  pub refused_turn : {r : Result Answer Refusal} {e : Refusal} → IsErrAnd r (λ y. y ≡ e) → Refused (refusal line capacity h (waiting before) (asked packed asks)) e h next (waiting before) (waiting after) → Performed waiting posting taking line coin h ok packed capacity turn r before next after
-  refused_turn {r} {e} from happens =
+  pub refused_turn : {r : Result Answer Refusal} {e : Refusal} → IsErrAnd r (λ y. y ≡ e) → Refused (refusal line capacity h (waiting before) (asked packed asks)) e h next (waiting before) (waiting after) → after ≡ before → Performed waiting posting taking line coin h ok packed capacity turn r before next after
+  refused_turn {r} {e} from happens same =
       let p = err_from_is_err_and r from in
       let is_err = p.1 ∙ ap Err p.2 in
-      record { event = refused (asked packed asks) e; told = ap (asked packed) (sym is); answer = is_err; occurs = record { happens = happens; carried = tt }; fits = subst (λ x. Fits ok turn x) (sym is_err) (none turn) }
+      record { event = refused (asked packed asks) e; told = ap (asked packed) (sym is); answer = is_err; occurs = record { happens = happens; carried = same }; fits = subst (λ x. Fits ok turn x) (sym is_err) (none turn) }
     where
       none : (t : Turn I) → Fits ok t (Err e)
       none (Announce i value) = tt

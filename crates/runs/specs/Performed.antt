@@ -43,7 +43,7 @@ answer_of (advanced i c r forced decides reached posted) = Ok (Advanced (record 
 module _ {C : Type 0} (waiting : C → List Message) (posting : C → Message → C → Type 0) (taking : C → ℕ → ℕ → Message → C → Type 0) (line : Line) (coin : Coin) (h : Held) where
   -- what the carrier says of the messages that an event posts, and of the one that it takes
   abbrev pub Carried : Event → C → C → Type 0
-  Carried (refused turn e) before after = Unit {0}
+  Carried (refused turn e) before after = after ≡ before
   Carried (announced i b k posted) before after = Posts posting before (announcing line h i k b).sent after
   Carried (opened i c v posted) before after = Posts posting before (opening line h i c v).sent after
   Carried (forged m posted) before after = Posts posting before (forging line h m).sent after

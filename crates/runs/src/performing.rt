@@ -1,5 +1,5 @@
 // Making one turn of any kind.
-ghost use Rattle.std.specs.Prelude.{◌≡◌};
+ghost use Rattle.std.specs.Prelude.{◌≡◌, OnErr};
 ghost use Rattle.memory.specs.Contents.{held};
 ghost use Rattle.runs.specs.Performed.{Performed};
 
@@ -21,6 +21,8 @@ pub fn perform<C: Carrier, K: Coin, I: Item>(
 ) -> Result<Answer, Refusal>
     ensures event { Performed C.waiting C.posting C.taking line.now (K.shows coin.now) (held memory.old) I.ok I.packed (C.capacity carrier.old) turn.now result carrier.old (held memory.new) carrier.new }
     ensures kept { C.capacity carrier.new ≡ C.capacity carrier.old }
+    ensures unwritten { OnErr result (held memory.new ≡ held memory.old) }
+    ensures untouched { OnErr result (carrier.new ≡ carrier.old) }
 {
     let answer = match turn {
         Turn::Announce { process, value } => {

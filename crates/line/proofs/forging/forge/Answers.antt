@@ -18,4 +18,4 @@ returns-then-addressee-n-clause-turn g c =
     record { first = not_to c.args.line.now (g.C.Carrier.capacity c.args.carrier.now) (held c.args.memory.now) (g.C.Carrier.waiting c.args.carrier.now) c.args.message c.sender.result c.sender.ensures c.in_ok-check_process.ensures.first (omega (arith, n)); memory = refl; carrier = refl }
 
 pub returns-clause-order : goal.returns-clause-order
-returns-clause-order g c = more none c.in_ok-post.ensures.told
+returns-clause-order g c = more none (rw c.unwrap.ensures at c.post.ensures.told)
