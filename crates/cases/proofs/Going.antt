@@ -1,11 +1,11 @@
 -- How a process goes on, by the rows that the code makes and by the sets of the rule. Assumes nothing.
-use Rattle.std.proofs.Common.{◌≡◌, ℕ, ◌-◌, ◌<◌, ◌≤◌, Bool, true, false, cond, ◌&&◌, ltb, leb, List, count_by, is_some, Some, None, Option, sym, refl, ap, ◌∙◌, subst, ⊎_elim, arith}
-use Rattle.std.proofs.lemmas.Bool.{both_ways, and_parts, and_from, and_right, and_cases, cond-true, cond-false, cases_Bool, le-leb, lt-leb, leb-true, leb-false}
+use Rattle.std.proofs.Common.{◌≡◌, ℕ, zero, suc, ◌-◌, ◌<◌, ◌≤◌, Bool, true, false, cond, ◌&&◌, ltb, leb, List, count_by, is_some, Some, None, Option, sym, refl, ap, ◌∙◌, subst, ⊎_elim, arith}
+use Rattle.std.proofs.lemmas.Bool.{both_ways, and_parts, and_from, and_right, and_cases, cond-true, cond-false, cases_Bool, cases_lt, le-leb, lt-leb, leb-true, leb-false, ltb-true, lt-ltb}
 use Rattle.std.proofs.lemmas.Option.{cond_some}
 use Rattle.protocol.specs.Counting.{below}
 use Rattle.protocol.specs.Numbers.{ballot_number}
 use Rattle.protocol.specs.declared.votes.Ballot.{Ballot}
-use Rattle.protocol.proofs.Counting.{below_zero, below_past, below_monotone}
+use Rattle.protocol.proofs.Counting.{below_suc, below_zero, below_past, below_monotone}
 use Rattle.plan.specs.declared.plans.Plan.{Plan}
 use Rattle.memory.proofs.Counting.{count_places}
 use Rattle.memory.specs.Contents.{Held, case_at}
@@ -23,7 +23,7 @@ use Rattle.ballots.proofs.Counts.{counts_past}
 use Rattle.ballots.proofs.Reading.{covered, holds_is, votes_behind, none_behind}
 use Rattle.ballots.proofs.Sets.{amount_alike}
 use Rattle.ballots.proofs.Theorem.{exact}
-use Rattle.cases.specs.Steps.{stands, round_at, voters, may_advance, chosen, chosen_counts, step_by, step_at, Says, FollowsBallots}
+use Rattle.cases.specs.Steps.{stands, round_at, voters, may_advance, chosen, chosen_counts, step_by, step_at, Says, OfLowest, GoesBy, FollowsBallots}
 use Rattle.cases.specs.declared.steps.Step.{Step}
 use Rattle.cases.proofs.Lowest.{none_chosen}
 use Rattle.cases.proofs.Sides.{says}
@@ -31,6 +31,20 @@ use Rattle.cases.proofs.Sides.{says}
 some_stands : (o : Option Ballot) → is_some o ≡ true → (b : Ballot) × (o ≡ Some b)
 some_stands None e = absurd cc
 some_stands (Some b) e = (b, refl)
+
+below_grows : (p : ℕ → Bool) (k j : ℕ) → k ≤ j → below k p ≤ below j p
+below_grows p k zero l = let is : k ≡ 0 = omega arith in omega (arith, ap (λ (m : ℕ). below m p) is)
+below_grows p k (suc j) l =
+    ⊎_elim (λ (x : k < suc j). omega (arith, below_grows p k j (omega arith), below_suc j p)) (λ (x : suc j ≤ k). let is : k ≡ suc j = omega arith in omega (arith, ap (λ (m : ℕ). below m p) is)) (cases_lt k (suc j))
+
+-- who passes the test and is not among the m lowest is above all of these
+above_lowest : (m : ℕ) (p : ℕ → Bool) (j k : ℕ) → lowest m p j ≡ true → lowest m p k ≡ false → p k ≡ true → j < k
+unfolding lowest
+above_lowest m p j k in_it out_of_it passes =
+    ⊎_elim (λ (l : j < k). l) (λ (l : k ≤ j).
+    let few = ltb-true _ _ (and_parts (p j) _ in_it).1 in
+    absurd (both_ways _ out_of_it (and_from _ _ passes (lt-ltb (below k p) m (omega (arith, few, below_grows p k j l))))))
+    (cases_lt j k)
 
 module _ (plan : Plan) (h : Held) (i c : ℕ) where
   abbrev G : BallotMap
@@ -125,12 +139,21 @@ module _ (plan : Plan) (h : Held) (i c : ℕ) where
   none_full : may_advance plan h i c ≡ false → covers plan h i c r ≡ true → (S : ℕ → Bool) → Quorum plan.n plan.t G (r - 1) S → ⊥
   none_full e is S full = ⊎_elim (λ x. both_ways _ x is) (λ x. omega (arith, full.size, leb-false _ _ x, below_monotone plan.n S (voters plan h i c) (λ k l m. let v = full.member k l m in valid_voter is k v.0 v.1))) (and_cases (covers plan h i c r) (leb (plan.n - plan.t) (below plan.n (voters plan h i c))) e)
 
+  lowest_chosen : covers plan h i c r ≡ true → OfLowest plan.n plan.t G (r - 1) (chosen plan h i c)
+  lowest_chosen e j k b in_it out_of_it valid = above_lowest (plan.n - plan.t) (voters plan h i c) j k in_it out_of_it (valid_voter e k b valid)
+
+  goes_chosen : may_advance plan h i c ≡ true → GoesBy plan h i c (chosen plan h i c) by
+  goes_chosen e =
+      let may = may_parts e in
+      let round = covered plan h i c r may.0 in
+      record { opened = round.first; unended = round.last; lowest = lowest_chosen may.0; says = says_chosen may.1 }
+
   law_at : FollowsBallots plan h i c (step_at plan h i c)
   law_at = record {
     voting = valid_voter;
     valid = voter_valid;
     covered = λ s e. (may_parts (cond_some (may_advance plan h i c) by s e).0).0;
-    says = λ s e. let x = cond_some (may_advance plan h i c) by s e in subst (Says plan.n plan.t G (r - 1) (chosen plan h i c)) x.1 (says_chosen (may_parts x.0).1);
+    goes = λ s e. let x = cond_some (may_advance plan h i c) by s e in subst (GoesBy plan h i c (chosen plan h i c)) x.1 (goes_chosen x.0);
     none = λ e. none_full (may_none (may_advance plan h i c) e);
   }
 

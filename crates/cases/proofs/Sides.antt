@@ -1,5 +1,5 @@
 -- What a step says of the counts that it was made by. Assumes nothing.
-use Rattle.std.proofs.Common.{◌≡◌, ℕ, ◌*◌, ◌<◌, ◌≤◌, Bool, true, false, cond, ltb, Some, None, Option, sym, refl, ap, subst, inl, inr, arith}
+use Rattle.std.proofs.Common.{◌≡◌, ℕ, ◌*◌, ◌<◌, ◌≤◌, ◌↔◌, Bool, true, false, cond, ltb, Some, None, Option, sym, refl, ap, subst, inl, inr, arith}
 use Rattle.std.proofs.lemmas.Bool.{ltb-true, ltb-false}
 use Rattle.std.proofs.lemmas.Bool.Decides.{nat_tests}
 use Rattle.protocol.specs.Numbers.{ballot_number, vote, proposal}
@@ -13,7 +13,9 @@ use Rattle.protocol.specs.Phases.{kind}
 use Rattle.consensus.specs.Rounds.{BallotMap, tally, Allows}
 use Rattle.consensus.specs.Validity.{Quorum}
 use Rattle.consensus.proofs.Sides.{both_sides}
+use Rattle.consensus.proofs.Steps.{one_side}
 use Rattle.cases.specs.Steps.{side_above, forced_side, proposed, voted, step_by, Says}
+use Rattle.cases.specs.declared.steps.Step.{Step}
 
 module _ (count : Ballot → ℕ) where
   module _ (bound : ℕ) where
@@ -63,11 +65,17 @@ module _ (count : Ballot → ℕ) where
     next_decides Second v e = absurd cc
     next_decides Third v e = (refl, above_some (2 * t) v e)
 
-    next_forced : (q : Kind) (v : Side) → (step_by n t q count).forced ≡ Some v → (q ≡ Third) × (t < count (proposal v)) × ((step_by n t q count).next ≡ Some (vote v))
+    next_forces : (q : Kind) (v : Side) → (step_by n t q count).forced ≡ Some v → (q ≡ Third) × (t < count (proposal v))
+    unfolding step_by
+    next_forces First v e = absurd cc
+    next_forces Second v e = absurd cc
+    next_forces Third v e = (refl, above_some t v e)
+
+    next_forced : (q : Kind) (v : Side) → (step_by n t q count).forced ≡ Some v → (step_by n t q count).next ≡ Some (vote v)
     unfolding step_by
     next_forced First v e = absurd cc
     next_forced Second v e = absurd cc
-    next_forced Third v e = (refl, above_some t v e, ap voted e)
+    next_forced Third v e = ap voted e
 
     next_unforced : (q : Kind) → q ≡ Third → (step_by n t q count).forced ≡ None → ((v : Side) → count (proposal v) ≤ t) × ((step_by n t q count).next ≡ None)
     unfolding step_by
@@ -81,16 +89,49 @@ module _ (count : Ballot → ℕ) where
     next_undecided Second x e = absurd cc
     next_undecided Third x e = above_none (2 * t) e
 
+    next_elsewhere : (q : Kind) → (q ≡ Third → ⊥) → ((step_by n t q count).forced ≡ None) × ((step_by n t q count).decides ≡ None)
+    unfolding step_by
+    next_elsewhere First other = (refl, refl)
+    next_elsewhere Second other = (refl, refl)
+    next_elsewhere Third other = absurd (other refl)
+
+  -- where no two sides are above a bound, the side that is told is the one that is
+  told_exactly : (bound : ℕ) → ((u v : Side) → bound < count (proposal u) → bound < count (proposal v) → u ≡ v) → (o : Option Side) → ((u : Side) → o ≡ Some u → bound < count (proposal u)) → (o ≡ None → (u : Side) → count (proposal u) ≤ bound) → (v : Side) → bound < count (proposal v) → o ≡ Some v
+  told_exactly bound alone None above none v l = absurd (omega (arith, none refl v))
+  told_exactly bound alone (Some u) above none v l = ap Some (alone u v (above u refl) l)
+
 -- the step of a full set says what the set says
-pub says : (n t : ℕ) (G : BallotMap) (q : ℕ) (S : ℕ → Bool) → Quorum n t G q S → Says n t G q S (step_by n t (kind q) (tally n G q S))
-says n t G q S full =
-    let count = tally n G q S in
-    record {
-      quorum = full;
-      next = next_allowed count n t (kind q);
-      tossed = next_tossed count n t (kind q);
-      forced = next_forced count n t (kind q);
-      unforced = next_unforced count n t (kind q);
-      decides = next_decides count n t (kind q);
-      undecided = next_undecided count n t (kind q);
-    }
+module _ (n t : ℕ) (G : BallotMap) (q : ℕ) (S : ℕ → Bool) (full : Quorum n t G q S) where
+  abbrev count_in : Ballot → ℕ
+  count_in = tally n G q S
+
+  abbrev by : Step
+  by = step_by n t (kind q) count_in
+
+  one_forced : (u v : Side) → t < count_in (proposal u) → t < count_in (proposal v) → u ≡ v
+  one_forced u v = (one_side n t G q).forced S S u v full full
+
+  forced_exactly : (v : Side) → (by.forced ≡ Some v) ↔ ((kind q ≡ Third) × (t < count_in (proposal v)))
+  forced_exactly v = (
+    next_forces count_in n t (kind q) v,
+    λ x. told_exactly count_in t one_forced by.forced (λ u e. (next_forces count_in n t (kind q) u e).1) (λ e. (next_unforced count_in n t (kind q) x.0 e).0) v x.1,
+  )
+
+  decides_exactly : (v : Side) → (by.decides ≡ Some v) ↔ ((kind q ≡ Third) × (2 * t < count_in (proposal v)))
+  decides_exactly v = (
+    next_decides count_in n t (kind q) v,
+    λ x. told_exactly count_in (2 * t) (λ u w l m. one_forced u w (omega arith) (omega arith)) by.decides (λ u e. (next_decides count_in n t (kind q) u e).1) (next_undecided count_in n t (kind q) x.0) v x.1,
+  )
+
+  pub says : Says n t G q S by
+  says = record {
+    quorum = full;
+    next = next_allowed count_in n t (kind q);
+    tossed = next_tossed count_in n t (kind q);
+    forced = forced_exactly;
+    forced_next = next_forced count_in n t (kind q);
+    unforced = next_unforced count_in n t (kind q);
+    decides = decides_exactly;
+    undecided = next_undecided count_in n t (kind q);
+    elsewhere = next_elsewhere count_in n t (kind q);
+  }

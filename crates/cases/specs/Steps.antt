@@ -1,6 +1,6 @@
 -- How a process goes on in a case. The round of a set counts from 0, the round that a process is
 -- in from 1.
-use Rattle.std.specs.Prelude.{◌≡◌, ℕ, ◌-◌, ◌*◌, ◌≤◌, Bool, true, cond, ◌&&◌, is_some, Some, None, Option, nat_le, nat_lt}
+use Rattle.std.specs.Prelude.{◌≡◌, ℕ, ◌-◌, ◌*◌, ◌<◌, ◌≤◌, ◌↔◌, Bool, true, false, cond, ◌&&◌, is_some, Some, None, Option, nat_le, nat_lt}
 use Rattle.protocol.specs.Counting.{below}
 use Rattle.protocol.specs.Numbers.{ballot_number, vote, proposal}
 use Rattle.protocol.specs.declared.votes.Side.{Side}
@@ -8,7 +8,7 @@ use Rattle.protocol.specs.declared.votes.Side.TheVariants as side
 use Rattle.protocol.specs.declared.votes.Ballot.{Ballot}
 use Rattle.protocol.specs.declared.votes.Ballot.TheVariants.{Open}
 use Rattle.plan.specs.declared.plans.Plan.{Plan}
-use Rattle.plan.specs.Plans.{quorum}
+use Rattle.plan.specs.Plans.{quorum, rounds}
 use Rattle.memory.specs.Contents.{Held, case_at}
 use Rattle.memory.specs.Places.{case_place}
 use Rattle.protocol.specs.declared.votes.Kind.{Kind}
@@ -88,18 +88,37 @@ module _ (plan : Plan) (h : Held) (i c : ℕ) where
 -- S is a full set of valid ballots of round q in G, and a process that goes by it goes on by s
 pub record Says (n t : ℕ) (G : BallotMap) (q : ℕ) (S : ℕ → Bool) (s : Step) : Type 0 where
   pub quorum : Quorum n t G q S
+  -- what is said next is a ballot that S allows
   pub next : (b : Ballot) → s.next ≡ Some b → Allows n t (kind q) (tally n G q S) (ballot_number b)
   -- where the coin is tossed, either side may be said
   pub tossed : s.next ≡ None → (kind q ≡ Third) × ((v : Side) → tally n G q S (proposal v) ≤ t) × ((v : Side) → Allows n t (kind q) (tally n G q S) (ballot_number (vote v)))
-  pub forced : (v : Side) → s.forced ≡ Some v → (kind q ≡ Third) × Forces t (tally n G q S) v × (s.next ≡ Some (vote v))
+  -- a side is forced exactly where S forces it in a third round, and is then said next
+  pub forced : (v : Side) → (s.forced ≡ Some v) ↔ ((kind q ≡ Third) × Forces t (tally n G q S) v)
+  pub forced_next : (v : Side) → s.forced ≡ Some v → s.next ≡ Some (vote v)
   pub unforced : kind q ≡ Third → s.forced ≡ None → ((v : Side) → tally n G q S (proposal v) ≤ t) × (s.next ≡ None)
-  pub decides : (v : Side) → s.decides ≡ Some v → (kind q ≡ Third) × Decides t (tally n G q S) v
+  -- a side is decided exactly where S decides it in a third round
+  pub decides : (v : Side) → (s.decides ≡ Some v) ↔ ((kind q ≡ Third) × Decides t (tally n G q S) v)
   pub undecided : kind q ≡ Third → s.decides ≡ None → (v : Side) → tally n G q S (proposal v) ≤ 2 * t
+  -- in other rounds nothing is forced or decided
+  pub elsewhere : (kind q ≡ Third → ⊥) → (s.forced ≡ None) × (s.decides ≡ None)
+
+-- S is of the lowest that have a valid ballot of round q in G: who has one and is not in S is above all in S
+abbrev pub OfLowest : ℕ → ℕ → BallotMap → ℕ → (ℕ → Bool) → Type 0
+OfLowest n t G q S = (j k b : ℕ) → S j ≡ true → S k ≡ false → Valid n t G q k b → j < k
+
+-- The rule of an advance: process i leaves its round of case c by the set S, and goes on by what S
+-- says, which is s.
+pub record GoesBy (plan : Plan) (h : Held) (i c : ℕ) (S : ℕ → Bool) (s : Step) : Type 0 where
+  -- the case is opened and has not ended
+  pub opened : 1 ≤ round_at plan h i c
+  pub unended : round_at plan h i c ≤ rounds plan
+  pub lowest : OfLowest plan.n plan.t (ballots_at plan h i c) (round_at plan h i c - 1) S
+  pub says : Says plan.n plan.t (ballots_at plan h i c) (round_at plan h i c - 1) S s
 
 -- o is how process i goes on in case c: by the lowest with valid ballots, if there is any full set
 pub record FollowsBallots (plan : Plan) (h : Held) (i c : ℕ) (o : Option Step) : Type 0 where
   pub voting : covers plan h i c (round_at plan h i c) ≡ true → (k b : ℕ) → Valid plan.n plan.t (ballots_at plan h i c) (round_at plan h i c - 1) k b → voters plan h i c k ≡ true
   pub valid : (k : ℕ) → voters plan h i c k ≡ true → (b : ℕ) × Valid plan.n plan.t (ballots_at plan h i c) (round_at plan h i c - 1) k b
   pub covered : (s : Step) → o ≡ Some s → covers plan h i c (round_at plan h i c) ≡ true
-  pub says : (s : Step) → o ≡ Some s → Says plan.n plan.t (ballots_at plan h i c) (round_at plan h i c - 1) (chosen plan h i c) s
+  pub goes : (s : Step) → o ≡ Some s → GoesBy plan h i c (chosen plan h i c) s
   pub none : o ≡ None → covers plan h i c (round_at plan h i c) ≡ true → (S : ℕ → Bool) → Quorum plan.n plan.t (ballots_at plan h i c) (round_at plan h i c - 1) S → ⊥

@@ -22,9 +22,8 @@ use Rattle.agreement.specs.Runs as machine
 use Rattle.agreement.specs.Runs.{State, told}
 use Rattle.agreement.proofs.Bodies.{when_set, when_from}
 use Rattle.agreement.proofs.Waiting.{subject_same}
-use Rattle.ballots.proofs.Reading.{Covered, covered, ballot_within}
-use Rattle.cases.specs.Steps.{round_at, chosen, FollowsBallots}
-use Rattle.cases.proofs.Going.{law}
+use Rattle.ballots.proofs.Reading.{ballot_within}
+use Rattle.cases.specs.Steps.{round_at}
 use Rattle.rules.specs.Turns.{said, sent_for, decision_after, moved, advancing, Coin}
 use Rattle.rules.specs.Runs.{Event, opened, advanced, Aside, Advances, Happens}
 use Rattle.rules.proofs.Stages.{Shown}
@@ -102,18 +101,12 @@ module _ (line : Line) (capacity : ℕ) (coin : Coin) (es : List Event) (h : Hel
     abbrev in_case : CaseShown line coin es h st i c
     in_case = shows.cases.each i c may_advance_lem.process may_advance_lem.case
 
-    abbrev step_law : FollowsBallots line.plan h i c (Some a.step)
-    step_law = law line.plan h i c (Some a.step) (sym a.by)
-
-    round_within : Covered line.plan h i c (round_at line.plan h i c)
-    round_within = covered line.plan h i c _ (step_law.covered a.step refl)
-
     -- the round that is left, from 0
     abbrev q : ℕ
     q = round_at line.plan h i c - 1
 
     at : round_at line.plan h i c ≡ suc q
-    at = omega (arith, round_within.first)
+    at = omega (arith, a.law.opened)
 
     r_is : r ≡ suc q
     r_is = a.from ∙ at
@@ -138,9 +131,9 @@ module _ (line : Line) (capacity : ℕ) (coin : Coin) (es : List Event) (h : Hel
       advanced_here : CaseShown line coin onward new_held now i c
       advanced_here =
           let written = moved_here line h shows.mirrors.large i c (r + 1) (decision_after (case_at h (case_place line.plan i c)).decision a.step.decides (r / 3)) may_advance_lem.process may_advance_lem.case in
-          case_advanced line coin es h st i c in_case q (chosen line.plan h i c) a.step reached posted new_held now at
+          case_advanced line coin es h st i c in_case q a.set a.step reached posted new_held now at
           (ap (λ (z : CaseRecord). z.round) written ∙ omega (arith, r_is))
-          (step_law.says a.step refl)
+          a.law.says
           (ap (λ (z : CaseRecord). z.decision) written ∙ ap (λ (k : ℕ). decision_after (case_at h (case_place line.plan i c)).decision a.step.decides (k / 3)) r_is)
           (same_ballots line h new_held refl i c) old new sent silent
 

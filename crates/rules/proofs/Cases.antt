@@ -147,7 +147,7 @@ module _ (line : Line) (coin : Coin) (es : List Event) (h : Held) (st : State) (
       tossed third = ⊎_elim forced free (told_side step.forced)
         where
           forced : ((v : Side) × (step.forced ≡ Some v)) → Tossed t (tally n G q S) (coin i c (suc q / 3)) body
-          forced x = let f = says.forced x.0 x.1 in inl (x.0, f.1, ap (λ o. ballot_number (said o (coin i c (suc q / 3)))) f.2)
+          forced x = inl (x.0, ((says.forced x.0).0 x.1).1, ap (λ o. ballot_number (said o (coin i c (suc q / 3)))) (says.forced_next x.0 x.1))
 
           free : step.forced ≡ None → Tossed t (tally n G q S) (coin i c (suc q / 3)) body
           free e = let f = says.unforced third e in inr (f.0, ap (λ o. ballot_number (said o (coin i c (suc q / 3)))) f.1)
@@ -157,11 +157,11 @@ module _ (line : Line) (coin : Coin) (es : List Event) (h : Held) (st : State) (
         by = S;
         quorum = says.quorum;
         tossed = λ third b e. subst (λ x. Tossed t (tally n G q S) (coin i c (suc q / 3)) x) (sym (new b e)) (tossed third);
-        forces = λ v x. (says.forced v (newest (Some v) x.0 x.1).0).1;
+        forces = λ v x. ((says.forced v).0 (newest (Some v) x.0 x.1).0).1;
         forced_some = λ third v x.
             ⊎_elim (λ y. (y.0, (step.decides, inl (refl, refl, refl, y.1, refl)))) (λ y. absurd (omega (arith, (says.unforced third y).0 v))) (told_side step.forced);
-        third = λ v x. (says.decides v (newest x.0 (Some v) x.1).1).0;
-        decides = λ v x. (says.decides v (newest x.0 (Some v) x.1).1).1;
+        third = λ v x. ((says.decides v).0 (newest x.0 (Some v) x.1).1).0;
+        decides = λ v x. ((says.decides v).0 (newest x.0 (Some v) x.1).1).1;
         decided_some = λ third v x.
             ⊎_elim (λ y. (y.0, (step.forced, inl (refl, refl, refl, refl, y.1)))) (λ y. absurd (omega (arith, says.undecided third y v))) (told_side step.decides);
       }

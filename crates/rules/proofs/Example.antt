@@ -30,7 +30,8 @@ use Rattle.ballots.specs.Places.{ballots_at}
 use Rattle.ballots.specs.Votes as ballots
 use Rattle.consensus.specs.Rounds.{tally}
 use Rattle.consensus.specs.Validity.{lowest}
-use Rattle.cases.specs.Steps.{step_at, step_by}
+use Rattle.cases.specs.Steps.{step_at, step_by, chosen}
+use Rattle.cases.proofs.Going.{law}
 use Rattle.cases.specs.declared.steps.Step.{Step}
 use Rattle.rules.specs.Turns as turns
 use Rattle.rules.specs.Turns.{refusal, reacted, replies, moved, said, decision_after, Coin}
@@ -149,6 +150,8 @@ goes r b bs left decision step sent next es heard_it by e run =
       step = step;
       by = by;
       from = refl;
+      set = chosen plan (accepted bs left 1 r decision b) 0 0;
+      law = (law plan (accepted bs left 1 r decision b) 0 0 (Some step) (sym by)).goes step refl;
       forces = refl;
       decision = refl;
       answer = refl;

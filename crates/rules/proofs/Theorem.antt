@@ -178,7 +178,7 @@ module _ (line : Line) where
                 let step : step_at line.plan h i c ≡ Some _ = cond-true (may_advance line.plan h i c) _ None e in
                 let by = law line.plan h i c _ (sym step) in
                 let at = covered line.plan h i c (rounds i) (by.covered _ refl) in
-                absurd (held_up (rounds i - 1) (chosen line.plan h i c) (omega (arith, at.first)) (omega (arith, at.first, at.last)) (by.says _ refl).quorum)
+                absurd (held_up (rounds i - 1) (chosen line.plan h i c) (omega (arith, at.first)) (omega (arith, at.first, at.last)) (by.goes _ refl).says.quorum)
 
       unanimous : (v : Side) → ((o : ℕ) (u : Side) → Correct line o → Opened es o c u → u ≡ v) → (o b : ℕ) → Correct line o → said o 0 ≡ Some b → b ≡ ballot_number (vote v)
       unanimous v same o b co e = ⊎_elim open_case (λ (l : rounds o ≤ 0). absurd (none_some _ b ((held o co).unsaid 0 l) e)) (cases_lt 0 (rounds o))

@@ -10,7 +10,7 @@ use Rattle.plan.specs.Kinds.{Line}
 use Rattle.memory.specs.Contents.{Held, cleared, case_at, serial_at}
 use Rattle.memory.specs.Places.{enough}
 use Rattle.memory.specs.declared.records.Decision.{Decision}
-use Rattle.cases.specs.Steps.{round_at, step_at}
+use Rattle.cases.specs.Steps.{round_at, step_at, GoesBy}
 use Rattle.cases.specs.declared.steps.Step.{Step}
 use Rattle.rules.specs.Turns.{Turn, Announce, Open, Forge, Deliver, Advance, Coin, refusal, decision_after, reacted, announcing, opening, forging, delivering, advancing, Refused, Done}
 
@@ -59,6 +59,9 @@ module _ (line : Line) (capacity : ℕ) (h : Held) (ws : List Message) where
   pub record Advances (coin : Coin) (i c r : ℕ) (forced decides : Option Side) (reached posted : ℕ) (after : Held) (left : List Message) : Type 0 where
     pub step : Step
     pub by : step_at line.plan h i c ≡ Some step
+    -- the set of ballots that it goes by, and the rule: the step is what this set says, forces and decides
+    pub set : ℕ → Bool
+    pub law : GoesBy line.plan h i c set step
     pub from : r ≡ round_at line.plan h i c
     pub forces : forced ≡ step.forced
     pub decision : decides ≡ step.decides

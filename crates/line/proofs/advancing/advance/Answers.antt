@@ -2,7 +2,8 @@ use Rattle.std.proofs.Common.{rules, ◌≡◌, ℕ, Some, Option, ◌+◌, ◌/
 use Rattle.protocol.specs.declared.messages.Subject.{Subject}
 use Rattle.memory.specs.Contents.{held, case_at, with_case}
 use Rattle.memory.specs.declared.records.CaseRecord.{CaseRecord}
-use Rattle.cases.specs.Steps.{step_at, round_at}
+use Rattle.cases.specs.Steps.{step_at, round_at, chosen}
+use Rattle.cases.proofs.Going.{law}
 use Rattle.rules.specs.Turns.{said, decision_after, subject_after, sent_for, room_for_ballot}
 use Rattle.line.specs.Sent.{Sent}
 use Rattle.line.proofs.Voting.{some_place, may_go_on}
@@ -38,6 +39,8 @@ returns-clause-turn g c =
             step = step;
             by = sym by;
             from = round;
+            set = chosen line.plan h i k;
+            law = (law line.plan h i k (Some step) by).goes step refl;
             forces = refl;
             decision = refl;
             answer = refl;
