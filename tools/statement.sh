@@ -1,6 +1,6 @@
 #!/bin/bash
 # docs/PROOFS.md states the promises of runs in plain words beside their formal text. This fails where the text is not the one in
-# rules/specs/Promises, and in protocol/specs/Faults under it, so that the two cannot part.
+# rules/specs/Promises, and in rules/specs/Runs and protocol/specs/Faults under it, so that the two cannot part.
 set -euo pipefail
 cd "$(dirname "$0")/.."
 formal=$(awk '
@@ -8,7 +8,8 @@ formal=$(awk '
     /^$/ { inside = 0 }
     inside && /^  pub / { print substr($0, 7) }
     /^(Correct|CorrectOf|Quiet|QuietOf|Stuck|CountsRightly|Luck) .* = / { print }
-' crates/protocol/specs/Faults.antt crates/rules/specs/Promises.antt)
+    /^(Ended|Forced|Decided|DecidingAny|FirstTold) .* = / { print }
+' crates/protocol/specs/Faults.antt crates/rules/specs/Runs.antt crates/rules/specs/Promises.antt)
 failed=0
 while IFS= read -r line; do
     if ! grep -qF "\`$line\`" docs/PROOFS.md; then

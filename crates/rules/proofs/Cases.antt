@@ -21,7 +21,8 @@ use Rattle.cases.specs.Steps.{round_at, Says}
 use Rattle.cases.specs.declared.steps.Step.{Step}
 use Rattle.agreement.specs.Runs.{State}
 use Rattle.rules.specs.Turns.{said, decision_after, Coin}
-use Rattle.rules.specs.Runs.{Event, opened, advanced, Told, Opening, Advancing, decision_of}
+use Rattle.rules.specs.Runs.{Event, opened, advanced, Told, Opening, Advancing}
+use Rattle.rules.proofs.Told.{decision_of}
 
 -- process i left round r of case c by ballots that force v, that decide v
 abbrev pub ForcedAt : List Event → ℕ → ℕ → ℕ → Side → Type 0

@@ -273,6 +273,6 @@ happens =
         shown = λ o co. refl;
         ended = λ o co. subst (λ k. Ended events k 0 2) (alone o co) ((promises.recorded.ended 0 0 2 correct (omega arith)).1 (below, past));
         last = refl;
-        decided = refl;
+        decided = (promises.recorded.decided 0 0 correct below Release 1).0 refl;
       },
     )

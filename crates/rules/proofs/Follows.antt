@@ -17,7 +17,8 @@ use Rattle.agreement.specs.Runs.{State, told}
 use Rattle.consensus.specs.Validity.{Part}
 use Rattle.ballots.specs.Places.{ballots_at}
 use Rattle.rules.specs.Turns.{said, Coin}
-use Rattle.rules.specs.Runs.{Event, Opening, Advancing, decision_of}
+use Rattle.rules.specs.Runs.{Event, Opening, Advancing}
+use Rattle.rules.proofs.Told.{decision_of}
 use Rattle.rules.proofs.Records.{world_of}
 use Rattle.rules.proofs.Cases.{CasesShown, untold, all_carried}
 use Rattle.rules.proofs.Shows.{Shows, stranger, no_stranger}

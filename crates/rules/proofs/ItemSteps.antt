@@ -26,7 +26,8 @@ use Rattle.agreement.proofs.Theorem.{lasts}
 use Rattle.consensus.specs.Validity.{Part}
 use Rattle.ballots.specs.Places.{ballots_at}
 use Rattle.rules.specs.Turns.{faulty, refusal, Deliver, reacted, replies, effect, Done, Coin}
-use Rattle.rules.specs.Runs.{Event, refused, announced, forged, delivered, Announces, Delivers, Happens, Announcing, Accepting, Advancing, Opening, decision_of}
+use Rattle.rules.specs.Runs.{Event, refused, announced, forged, delivered, Announces, Delivers, Happens, Announcing, Accepting, Advancing, Opening}
+use Rattle.rules.proofs.Told.{decision_of}
 use Rattle.rules.proofs.Records.{world_of}
 use Rattle.rules.proofs.Ballots.{same_ballots, ballot_accepted, accepted_ballot}
 use Rattle.rules.proofs.Shows.{Shows, as_large, items_on, bodies_on, stranger, AnnounceAllowed, announce_allowed, forge_allowed, deliver_allowed, no_stranger, no_strange_sender, not_stranger}

@@ -1,5 +1,5 @@
 -- After every run the promises hold.
-use Rattle.std.proofs.Common.{◌≡◌, ℕ, zero, suc, ◌+◌, ◌-◌, ◌*◌, ◌/◌, ◌<◌, ◌≤◌, true, false, List, Some, None, Option, sym, refl, ap, ◌∙◌, subst, ap₂, ⊎_elim, arith}
+use Rattle.std.proofs.Common.{◌≡◌, ℕ, zero, suc, ◌+◌, ◌-◌, ◌*◌, ◌/◌, ◌<◌, ◌≤◌, ◌↔◌, true, false, List, Some, None, Option, sym, refl, ap, ◌∙◌, subst, ap₂, ⊎_elim, arith}
 use Rattle.std.proofs.lemmas.Bool.{and_from, cond-true, cond-false, cases_Bool, cases_lt}
 use Rattle.protocol.specs.Numbers.{ballot_number, vote}
 use Rattle.protocol.specs.Thresholds.{Sound}
@@ -29,7 +29,7 @@ use Rattle.ballots.proofs.Reading.{ballot_within, covered}
 use Rattle.cases.specs.Steps.{round_at, may_advance, step_at, chosen}
 use Rattle.cases.proofs.Going.{law}
 use Rattle.rules.specs.Turns.{faulty, Coin}
-use Rattle.rules.specs.Runs.{Event, refused, announced, opened, forged, delivered, advanced, Run, begun, after, aside, Told, Advancing, Opened, Ended, Forced, Decided}
+use Rattle.rules.specs.Runs.{Event, refused, announced, opened, forged, delivered, advanced, Run, Happens, begun, after, aside, Told, Advancing, Opened, Ended, Forced, Decided}
 use Rattle.rules.specs.Promises.{Correct, Quiet, Stuck, AtRest, Luck, Promises, PromisesKept}
 use Rattle.rules.proofs.Stages.{shown_accepted}
 use Rattle.rules.proofs.Records.{world_of}
@@ -38,12 +38,19 @@ use Rattle.rules.proofs.Ballots.{ballot_accepted, accepted_ballot}
 use Rattle.rules.proofs.Shows.{Shows, at_start}
 use Rattle.rules.proofs.Steps.{follow}
 use Rattle.rules.proofs.CaseSteps.{step_aside}
-use Rattle.rules.proofs.Told.{Tells, FirstOf, decision_told, decision_stands, first_after}
+use Rattle.rules.proofs.Told.{Tells, FirstOf, Thirds, decision_of, decision_told, decision_stands, first_after, first_is_told, stands_first, first_stands}
 
 -- rounds 2, 5, 8 and so on, from 0, are third rounds
 third : (m : ℕ) → kind (3 * m + 2) ≡ Third
 third zero = refl
 third (suc m) = let e : 3 * suc m + 2 ≡ suc (suc (suc (3 * m + 2))) = omega arith in ap kind e ∙ third m
+
+-- and there are no others
+third_only : (q : ℕ) → kind q ≡ Third → (m : ℕ) × (q ≡ 3 * m + 2)
+third_only zero e = absurd cc
+third_only (suc zero) e = absurd cc
+third_only (suc (suc zero)) e = (0, omega arith)
+third_only (suc (suc (suc q))) e = let m = third_only q e in (suc m.0, omega (arith, m.1))
 
 module _ (line : Line) where
   sound : Sound line.plan.n line.plan.t (thresholds_of line.plan.n line.plan.t).echo (thresholds_of line.plan.n line.plan.t).ready (thresholds_of line.plan.n line.plan.t).accept
@@ -84,7 +91,27 @@ module _ (line : Line) where
         let below = a.2.cases.advancers i c r f y t in
         omega (arith, happens.from, ap₂ (round_at line.plan h) ji kc, ((a.2.cases.each i c ci.0 below).bound r f y t).1))
 
-  module _ (coin : Coin) (es : List Event) (h : Held) (ws : List Message) (st : State) (run : machine.Run (world_of line) st) (shows : Shows line coin es h ws st) (first : (i c : ℕ) → Correct line i → FirstOf i c es) where
+    -- an advance that decides is from a third round
+    third_left : (h : Held) (ws : List Message) (e : Event) (next : Held) (left : List Message) → Happens line capacity h ws coin e next left → (i c r : ℕ) (f : Option Side) (v : Side) → Advancing i c r f (Some v) e → (k : ℕ) × (r ≡ 3 * k)
+    third_left h ws (refused turn e) next left a i c r f v z = absurd z
+    third_left h ws (announced j b k posted) next left a i c r f v z = absurd z
+    third_left h ws (opened j k u posted) next left a i c r f v z = absurd z
+    third_left h ws (forged m posted) next left a i c r f v z = absurd z
+    third_left h ws (delivered j pick m posted accepted) next left a i c r f v z = absurd z
+    third_left h ws (advanced j k q g x reached posted) next left a i c r f v z =
+        let m = third_only (round_at line.plan h j k - 1) ((a.law.says.decides v).0 (sym a.decision ∙ z.4)).0 in
+        (suc m.0, omega (arith, m.1, a.law.opened, a.from, z.2))
+
+    thirds : (es : List Event) (h : Held) (ws : List Message) → Run line capacity coin es h ws → (i c : ℕ) → Thirds i c es
+    thirds _ _ _ (begun h large) i c r f v t = absurd t
+    thirds _ _ _ (aside {es} {h} {next} {ws} run same) i c r f v t = thirds es h ws run i c r f v t
+    thirds _ _ _ (after {es} {h} {next} {ws} {left} run e happens) i c r f v t = ⊎_elim (third_left h ws e next left happens i c r f v) (thirds es h ws run i c r f v) t
+
+    -- Of a run, the first decision that is told is the one that stands when its events are added up.
+    pub decided_exactly : (es : List Event) (h : Held) (ws : List Message) → Run line capacity coin es h ws → (i c : ℕ) (v : Side) (k : ℕ) → Decided es i c v k ↔ (decision_of es i c ≡ Some (record { side = v; phase = k }))
+    decided_exactly es h ws run i c v k = (first_stands i c es v k, stands_first i c es (thirds es h ws run i c) (record { side = v; phase = k }))
+
+  module _ (coin : Coin) (es : List Event) (h : Held) (ws : List Message) (st : State) (run : machine.Run (world_of line) st) (shows : Shows line coin es h ws st) (first : (i c : ℕ) → Correct line i → FirstOf i c es) (exactly : (i c : ℕ) (v : Side) (k : ℕ) → Decided es i c v k ↔ (decision_of es i c ≡ Some (record { side = v; phase = k }))) where
     abbrev n : ℕ
     n = line.plan.n
 
@@ -220,13 +247,13 @@ module _ (line : Line) where
             let d = decides in
             let s = decision_stands i c es (suc (3 * suc m + 2)) d.0 v d.1 in
             let is = agree i i s.0.side v ci ci (decision_told i c es s.0 s.1) (suc (3 * suc m + 2), d.0, d.1) in
-            (s.0.phase, omega (arith, first i c ci s.0 s.1 (suc (3 * suc m + 2)) d.0 v d.1), s.1 ∙ ap (λ w. Some (record { side = w; phase = s.0.phase })) is)
+            (s.0.phase, omega (arith, first i c ci s.0 s.1 (suc (3 * suc m + 2)) d.0 v d.1), (exactly i c v s.0.phase).1 (s.1 ∙ ap (λ w. Some (record { side = w; phase = s.0.phase })) is))
 
     tells_below : (i c : ℕ) (v : Side) → Tells es i c v → c < line.plan.cases
     tells_below i c v t = shows.cases.advancers i c t.0 t.1 (Some v) t.2
 
     told_decision : (i c k : ℕ) (v : Side) → Decided es i c v k → Tells es i c v
-    told_decision i c k v d = decision_told i c es (record { side = v; phase = k }) d
+    told_decision i c k v d = (3 * k, d.0, first_is_told _ _ es d.1)
 
     luck : Luck line coin es
     luck c zero v from_one shared only i ci ended = absurd (omega arith)
@@ -257,7 +284,9 @@ module _ (line : Line) where
         kept = λ s i b ci x. shown_accepted _ _ _ _ (shows.mirrors.records i s ci.0 (shows.bodies.inside i s b x)).stage ∙ shows.bodies.accepts i s b x;
         only = λ s i b ci inside x. shows.bodies.accepted i s b (sym (shown_accepted _ _ _ _ (shows.mirrors.records i s ci.0 inside).stage) ∙ x);
         inside = λ s i b. shows.bodies.inside i s b;
-        decided = λ i c ci below. (shows.cases.each i c ci.0 below).decision;
+        decided = λ i c ci below v k.
+            let stored = (shows.cases.each i c ci.0 below).decision in
+            ((λ e. (exactly i c v k).1 (sym stored ∙ e)), (λ d. stored ∙ (exactly i c v k).0 d));
         opened = λ i c ci. (
           (λ t. let below = shows.cases.openers i c t.0 t.1 in (below, began c below i ci t.0 t.1)),
           (λ x. voted c x.0 i ci x.1),
@@ -271,4 +300,4 @@ module _ (line : Line) where
     }
 
 pub kept : (line : Line) (capacity : ℕ) (coin : Coin) → PromisesKept line capacity coin
-kept line capacity coin es h ws run = let a = along line capacity coin es h ws run in promises line coin es h ws a.0 a.1 a.2 (firsts line capacity coin es h ws run)
+kept line capacity coin es h ws run = let a = along line capacity coin es h ws run in promises line coin es h ws a.0 a.1 a.2 (firsts line capacity coin es h ws run) (decided_exactly line capacity coin es h ws run)

@@ -1,10 +1,20 @@
--- The first decision, as events tell it.
-use Rattle.std.proofs.Common.{◌≡◌, ℕ, ◌/◌, ◌<◌, ◌≤◌, Bool, true, false, cond, ◌&&◌, eqb, List, [], ◌∷◌, Some, None, Option, sym, refl, ap, ◌∙◌, inl, inr, ⊎_elim, arith}
+-- The first decision: what events tell of it, and what memory keeps by adding up events one by one.
+use Rattle.std.proofs.Common.{◌≡◌, ℕ, ◌*◌, ◌/◌, ◌<◌, ◌≤◌, Bool, true, false, cond, ◌&&◌, eqb, List, [], ◌∷◌, Some, None, Option, sym, refl, ap, ◌∙◌, inl, inr, ⊎_elim, arith}
 use Rattle.std.proofs.lemmas.Bool.{and_parts, and_from, eqb-true, eq-eqb, cond-true}
 use Rattle.protocol.specs.declared.votes.Side.{Side}
 use Rattle.memory.specs.declared.records.Decision.{Decision}
 use Rattle.rules.specs.Turns.{decision_after}
-use Rattle.rules.specs.Runs.{Event, refused, announced, opened, forged, delivered, advanced, Told, Advancing, decision_of}
+use Rattle.rules.specs.Runs.{Event, refused, announced, opened, forged, delivered, advanced, Told, Advancing, DecidingAny, FirstTold, Decided}
+
+-- what an event decides for process i in case c, if no decision stands
+abbrev pub deciding : ℕ → ℕ → Event → Option Decision → Option Decision
+deciding i c (advanced j d r forced decides reached posted) before = cond (eqb i j && eqb c d) (decision_after before decides (r / 3)) before
+deciding i c _ before = before
+
+-- the decision of process i in case c that stands after these events
+abbrev pub decision_of : List Event → ℕ → ℕ → Option Decision
+decision_of [] i c = None
+decision_of (e ∷ es) i c = deciding i c e (decision_of es i c)
 
 no_decision : (d : Decision) → ◌≡◌ {A = Option Decision} None (Some d) → ⊥
 no_decision d e = cc
@@ -93,3 +103,80 @@ module _ (i c : ℕ) where
         let s = decision_stands es r f v t in
         let same = some_decision s.0 d (sym (still (eqb i j && eqb c k) (decision_of es i c) x (q / 3) s.0 s.1) ∙ h) in
         omega (arith, before s.0 s.1 r f v t, ap (λ (w : Decision). w.phase) same)
+
+pub first_is_told : (P Q : Event → Type 0) (es : List Event) → FirstTold P Q es → Told P es
+first_is_told P Q [] t = absurd t
+first_is_told P Q (e ∷ es) t = ⊎_elim (λ z. inl z.0) (λ z. inr (first_is_told P Q es z)) t
+
+module _ (i c : ℕ) where
+  -- what decides is an advance from a third round
+  abbrev pub Thirds : List Event → Type 0
+  Thirds es = (r : ℕ) (f : Option Side) (v : Side) → Told (Advancing i c r f (Some v)) es → (k : ℕ) × (r ≡ 3 * k)
+
+  some_side : (es : List Event) → Told (DecidingAny i c) es → (v : Side) × Tells es i c v
+  some_side [] t = absurd t
+  some_side (e ∷ es) t = ⊎_elim (λ z. (z.2, (z.0, z.1, inl z.3))) (λ z. let y = some_side es z in (y.0, (y.1.0, y.1.1, inr y.1.2))) t
+
+  any_side : (r : ℕ) (f : Option Side) (v : Side) (es : List Event) → Told (Advancing i c r f (Some v)) es → Told (DecidingAny i c) es
+  any_side r f v [] t = absurd t
+  any_side r f v (e ∷ es) t = ⊎_elim (λ z. inl (r, f, v, z)) (λ z. inr (any_side r f v es z)) t
+
+  -- no decision stands exactly where no event decides
+  none_told : (es : List Event) → decision_of es i c ≡ None → Told (DecidingAny i c) es → ⊥
+  none_told es e t =
+      let v = some_side es t in
+      let s = decision_stands i c es v.1.0 v.1.1 v.0 v.1.2 in
+      no_decision s.0 (sym e ∙ s.1)
+
+  none_stands : (es : List Event) → (Told (DecidingAny i c) es → ⊥) → decision_of es i c ≡ None
+  none_stands es none = go (decision_of es i c) refl
+    where
+      go : (o : Option Decision) → decision_of es i c ≡ o → decision_of es i c ≡ None
+      go None e = e
+      go (Some d) e = let t = decision_told i c es d e in absurd (none (any_side t.0 t.1 d.side es t.2))
+
+  module _ (es : List Event) (d : Decision) (before : decision_of es i c ≡ Some d → Decided es i c d.side d.phase) (j k r : ℕ) (f x : Option Side) (reached posted : ℕ) (thirds : Thirds (advanced j k r f x reached posted ∷ es)) where
+    newest_first : (b : Bool) → (eqb i j && eqb c k) ≡ b → (o : Option Decision) → decision_of es i c ≡ o → (y : Option Side) → x ≡ y → cond b (decision_after o y (r / 3)) o ≡ Some d → Decided (advanced j k r f x reached posted ∷ es) i c d.side d.phase
+    newest_first false e o p y z h = let w = before (p ∙ h) in (w.0, inr w.1)
+    newest_first true e (Some old) p y z h = let w = before (p ∙ h) in (w.0, inr w.1)
+    newest_first true e None p None z h = absurd (no_decision d h)
+    newest_first true e None p (Some v) z h =
+        let is : record { side = v; phase = r / 3 } ≡ d = cc in
+        let same = and_parts _ _ e in
+        let here = sym (eqb-true i j same.0) in
+        let there = sym (eqb-true c k same.1) in
+        let third = thirds r f v (inl (here, there, refl, refl, z)) in
+        let round : r ≡ 3 * d.phase = omega (arith, third.1, ap (λ (w : Decision). w.phase) is) in
+        (f, inl ((here, there, round, refl, z ∙ ap (λ (w : Decision). Some w.side) is), none_told es p))
+
+  -- The decision that stands is the first that events tell,
+  pub stands_first : (es : List Event) → Thirds es → (d : Decision) → decision_of es i c ≡ Some d → Decided es i c d.side d.phase
+  stands_first [] thirds d h = absurd (no_decision d h)
+  stands_first (refused turn e ∷ es) thirds d h = let y = stands_first es (λ r f v t. thirds r f v (inr t)) d h in (y.0, inr y.1)
+  stands_first (announced j b l posted ∷ es) thirds d h = let y = stands_first es (λ r f v t. thirds r f v (inr t)) d h in (y.0, inr y.1)
+  stands_first (opened j k v posted ∷ es) thirds d h = let y = stands_first es (λ r f v t. thirds r f v (inr t)) d h in (y.0, inr y.1)
+  stands_first (forged m posted ∷ es) thirds d h = let y = stands_first es (λ r f v t. thirds r f v (inr t)) d h in (y.0, inr y.1)
+  stands_first (delivered j pick m posted accepted ∷ es) thirds d h = let y = stands_first es (λ r f v t. thirds r f v (inr t)) d h in (y.0, inr y.1)
+  stands_first (advanced j k r f x reached posted ∷ es) thirds d h =
+      newest_first es d (stands_first es (λ q g v t. thirds q g v (inr t)) d) j k r f x reached posted thirds (eqb i j && eqb c k) refl (decision_of es i c) refl x refl h
+
+  -- and the first that events tell stands.
+  module _ (v : Side) (k : ℕ) (f : Option Side) where
+    abbrev made : Decision
+    made = record { side = v; phase = k }
+
+    first_kept : (es : List Event) → FirstTold (Advancing i c (3 * k) f (Some v)) (DecidingAny i c) es → decision_of es i c ≡ Some made
+    first_kept [] t = absurd t
+    first_kept (refused turn e ∷ es) t = ⊎_elim (λ z. absurd z.0) (first_kept es) t
+    first_kept (announced j b l posted ∷ es) t = ⊎_elim (λ z. absurd z.0) (first_kept es) t
+    first_kept (opened j d u posted ∷ es) t = ⊎_elim (λ z. absurd z.0) (first_kept es) t
+    first_kept (forged m posted ∷ es) t = ⊎_elim (λ z. absurd z.0) (first_kept es) t
+    first_kept (delivered j pick m posted accepted ∷ es) t = ⊎_elim (λ z. absurd z.0) (first_kept es) t
+    first_kept (advanced j d r g x reached posted ∷ es) t =
+        ⊎_elim (λ z.
+        let phase : r / 3 ≡ k = omega (arith, z.0.2) in
+        cond-true _ _ _ (and_from _ _ (eq-eqb i j (sym z.0.0)) (eq-eqb c d (sym z.0.1))) ∙ (λ m. decision_after (none_stands es z.1 m) (z.0.4 m) (phase m)))
+        (λ z. still i c (eqb i j && eqb c d) (decision_of es i c) x (r / 3) made (first_kept es z)) t
+
+  pub first_stands : (es : List Event) (v : Side) (k : ℕ) → Decided es i c v k → decision_of es i c ≡ Some (record { side = v; phase = k })
+  first_stands es v k d = first_kept v k d.0 es d.1

@@ -1,5 +1,5 @@
 -- Runs: turns one after another, from the cleared memory and the empty carrier that opening leaves. Assumes nothing.
-use Rattle.std.specs.Prelude.{◌≡◌, ℕ, ◌+◌, ◌*◌, ◌/◌, Bool, true, cond, ◌&&◌, ◌⊎◌, List, [], ◌∷◌, length, Some, None, Option, ◌==◌}
+use Rattle.std.specs.Prelude.{◌≡◌, ℕ, ◌+◌, ◌*◌, Bool, true, ◌⊎◌, List, [], ◌∷◌, length, Some, Option}
 use Rattle.protocol.specs.Bags.{Same}
 use Rattle.protocol.specs.Numbers.{ballot_number, vote}
 use Rattle.protocol.specs.declared.messages.Message.{Message}
@@ -9,10 +9,9 @@ use Rattle.protocol.specs.declared.refusals.Refusal.{Refusal}
 use Rattle.plan.specs.Kinds.{Line}
 use Rattle.memory.specs.Contents.{Held, cleared, case_at, serial_at}
 use Rattle.memory.specs.Places.{enough}
-use Rattle.memory.specs.declared.records.Decision.{Decision}
 use Rattle.cases.specs.Steps.{round_at, step_at, GoesBy}
 use Rattle.cases.specs.declared.steps.Step.{Step}
-use Rattle.rules.specs.Turns.{Turn, Announce, Open, Forge, Deliver, Advance, Coin, refusal, decision_after, reacted, announcing, opening, forging, delivering, advancing, Refused, Done}
+use Rattle.rules.specs.Turns.{Turn, Announce, Open, Forge, Deliver, Advance, Coin, refusal, reacted, announcing, opening, forging, delivering, advancing, Refused, Done}
 
 -- a turn with what came of it: its refusal, or what it answered, and the message that a delivery took
 pub data Event : Type 0 where
@@ -59,10 +58,10 @@ module _ (line : Line) (capacity : ℕ) (h : Held) (ws : List Message) where
   pub record Advances (coin : Coin) (i c r : ℕ) (forced decides : Option Side) (reached posted : ℕ) (after : Held) (left : List Message) : Type 0 where
     pub step : Step
     pub by : step_at line.plan h i c ≡ Some step
+    pub from : r ≡ round_at line.plan h i c
     -- the set of ballots that it goes by, and the rule: the step is what this set says, forces and decides
     pub set : ℕ → Bool
     pub law : GoesBy line.plan h i c set step
-    pub from : r ≡ round_at line.plan h i c
     pub forces : forced ≡ step.forced
     pub decision : decides ≡ step.decides
     pub answer : reached ≡ r + 1
@@ -99,48 +98,32 @@ Told P (e ∷ es) = P e ⊎ Told P es
 
 -- process i announced body b under serial k
 abbrev pub Announcing : ℕ → ℕ → ℕ → Event → Type 0
-Announcing i k b (refused turn e) = ⊥
 Announcing i k b (announced j c l posted) = (j ≡ i) × (l ≡ k) × (c ≡ b)
-Announcing i k b (opened j c v posted) = ⊥
-Announcing i k b (forged m posted) = ⊥
-Announcing i k b (delivered j pick m posted accepted) = ⊥
-Announcing i k b (advanced j c r forced decides reached posted) = ⊥
+Announcing i k b _ = ⊥
 
 -- process i took the message by which it accepted body b for subject s
 abbrev pub Accepting : ℕ → Subject → ℕ → Event → Type 0
-Accepting i s b (refused turn e) = ⊥
-Accepting i s b (announced j c l posted) = ⊥
-Accepting i s b (opened j c v posted) = ⊥
-Accepting i s b (forged m posted) = ⊥
 Accepting i s b (delivered j pick m posted accepted) = (accepted ≡ true) × (j ≡ i) × (m.subject ≡ s) × (m.body ≡ b)
-Accepting i s b (advanced j c r forced decides reached posted) = ⊥
+Accepting i s b _ = ⊥
 
 -- process i opened case c with a vote for v
 abbrev pub Opening : ℕ → ℕ → Side → Event → Type 0
-Opening i c v (refused turn e) = ⊥
-Opening i c v (announced j b l posted) = ⊥
 Opening i c v (opened j d w posted) = (j ≡ i) × (d ≡ c) × (w ≡ ballot_number (vote v))
-Opening i c v (forged m posted) = ⊥
-Opening i c v (delivered j pick m posted accepted) = ⊥
-Opening i c v (advanced j d r forced decides reached posted) = ⊥
+Opening i c v _ = ⊥
 
 -- process i advanced in case c from round r, by ballots that force and decide these sides
 abbrev pub Advancing : ℕ → ℕ → ℕ → Option Side → Option Side → Event → Type 0
-Advancing i c r f x (refused turn e) = ⊥
-Advancing i c r f x (announced j b l posted) = ⊥
-Advancing i c r f x (opened j d w posted) = ⊥
-Advancing i c r f x (forged m posted) = ⊥
-Advancing i c r f x (delivered j pick m posted accepted) = ⊥
 Advancing i c r f x (advanced j d q forced decides reached posted) = (j ≡ i) × (d ≡ c) × (q ≡ r) × (forced ≡ f) × (decides ≡ x)
+Advancing i c r f x _ = ⊥
 
--- what an event decides for process i in case c, if no decision stands
-abbrev pub deciding : ℕ → ℕ → Event → Option Decision → Option Decision
-deciding i c (refused turn e) before = before
-deciding i c (announced j b l posted) before = before
-deciding i c (opened j d w posted) before = before
-deciding i c (forged m posted) before = before
-deciding i c (delivered j pick m posted accepted) before = before
-deciding i c (advanced j d r forced decides reached posted) before = cond (i == j && c == d) (decision_after before decides (r / 3)) before
+-- process i advanced in case c, from some round, by ballots that decide some side
+abbrev pub DecidingAny : ℕ → ℕ → Event → Type 0
+DecidingAny i c e = (r : ℕ) × (f : Option Side) × (v : Side) × Advancing i c r f (Some v) e
+
+-- Some event tells P, and none before it tells Q. The newest event stands first in the list.
+abbrev pub FirstTold : (Event → Type 0) → (Event → Type 0) → List Event → Type 0
+FirstTold P Q [] = ⊥
+FirstTold P Q (e ∷ es) = (P e × (Told Q es → ⊥)) ⊎ FirstTold P Q es
 
 -- What a run has told of a process: that it announced body b under serial k,
 abbrev pub Announced : List Event → ℕ → ℕ → ℕ → Type 0
@@ -158,15 +141,10 @@ Opened es i c v = Told (Opening i c v) es
 abbrev pub Ended : List Event → ℕ → ℕ → ℕ → Type 0
 Ended es i c k = (f x : Option Side) × Told (Advancing i c (3 * k) f x) es
 
--- and was forced to v there.
+-- was forced to v there,
 abbrev pub Forced : List Event → ℕ → ℕ → ℕ → Side → Type 0
 Forced es i c k v = (x : Option Side) × Told (Advancing i c (3 * k) (Some v) x) es
 
--- the first decision of process i in case c
-abbrev pub decision_of : List Event → ℕ → ℕ → Option Decision
-decision_of [] i c = None
-decision_of (e ∷ es) i c = deciding i c e (decision_of es i c)
-
--- the run told that process i decided v in phase k, for the first time in case c
+-- and decided v there, and had decided nothing before.
 abbrev pub Decided : List Event → ℕ → ℕ → Side → ℕ → Type 0
-Decided es i c v k = decision_of es i c ≡ Some (record { side = v; phase = k })
+Decided es i c v k = (f : Option Side) × FirstTold (Advancing i c (3 * k) f (Some v)) (DecidingAny i c) es

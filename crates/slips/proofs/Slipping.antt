@@ -1,5 +1,5 @@
 -- What a change of a slip's state leaves, and that a slip says the truth. Assumes nothing.
-use Rattle.std.proofs.Common.{◌≡◌, ℕ, Bool, true, false, not, ltb, length, set, Some, None, Ok, Option, sym, refl, ap, ◌∙◌, arith, length-set, get_or-set_same}
+use Rattle.std.proofs.Common.{◌≡◌, ℕ, Bool, true, false, not, ltb, length, set, Some, None, Ok, Option, refl, ap, ◌∙◌, arith, length-set, get_or-set_same}
 use Rattle.std.proofs.lemmas.Bool.{both_ways, and_parts, and_from, cond-true, ltb-true, lt-ltb, le-leb}
 use Rattle.protocol.specs.declared.refusals.Refusal.{Refusal}
 use Rattle.protocol.specs.declared.refusals.Refusal.TheVariants.{MemoryTooSmall, ProcessOutOfRange, WrongRole}
@@ -33,7 +33,7 @@ module _ (line : Line) (h : Held) (i c : ℕ) where
   pub truth : (slip : ReleaseSlip) → Correct line i → ltb c line.plan.cases ≡ true → may_issue (record_at line h i c) ≡ true → Truthful line h i c (Ok slip)
   truth slip correct known issues capacity coin es ws run =
       let stored = released (record_at line h i c).decision (and_parts _ _ issues).0 in
-      (stored.0, sym ((kept line capacity coin es h ws run).recorded.decided i c correct (ltb-true c line.plan.cases known)) ∙ stored.1)
+      (stored.0, ((kept line capacity coin es h ws run).recorded.decided i c correct (ltb-true c line.plan.cases known) Release stored.0).0 stored.1)
 
 -- a slip that was just issued can be given back
 module _ (line : Line) (h : Held) (i c : ℕ) (before : (rest : Option Refusal) → correct_tests line h i rest ≡ rest) (correct : Correct line i) (known : ltb c line.plan.cases ≡ true) where
