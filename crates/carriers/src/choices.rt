@@ -7,11 +7,14 @@ ghost use Rattle.std.proofs.Common.{rules, mod-lt};
 
 use row::Row;
 
+/// Which of the messages for a process is taken.
 pub trait Choice {
-    // For a process and a pick, the number of the message that is taken out of a list. The oldest for the process has
-    // number 0.
+    // For a process and a pick, the number of the message that is taken out of a list. The oldest
+    // for the process has number 0.
     ghost number: { ℕ → ℕ → List Message → ℕ };
 
+    /// The number of the message that is taken, among those in the row for the process. The oldest
+    /// has number 0. Where none waits for it, any number is answered.
     fn number(row: &Row, process: u64, pick: u64) -> u64
         ensures { result ≡ number process pick (listed row.now) };
 
@@ -19,7 +22,7 @@ pub trait Choice {
     ghost among: { (process pick : ℕ) (ms : List Message) → 0 < waiting_for process ms → number process pick ms < waiting_for process ms };
 }
 
-// The oldest message is taken.
+/// The oldest message is taken.
 #[derive(Drop)]
 pub struct Oldest;
 
@@ -33,7 +36,7 @@ impl Choice for Oldest {
     }
 }
 
-// The newest message is taken.
+/// The newest message is taken.
 #[derive(Drop)]
 pub struct Newest;
 
@@ -47,7 +50,7 @@ impl Choice for Newest {
     }
 }
 
-// The message that is picked is taken.
+/// With k messages for the process, number pick modulo k is taken.
 #[derive(Drop)]
 pub struct Picked;
 

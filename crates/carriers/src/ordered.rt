@@ -1,4 +1,5 @@
-// A carrier that keeps messages in order of posting, and takes one of those for a process by a rule.
+// A carrier that keeps messages in order of posting, and takes one of those for a process by a
+// rule.
 ghost use Rattle.std.specs.Prelude.{◌≡◌, [], ◌∷◌, ◌++◌, length, IfOk, OnErr, OnOk};
 ghost use Rattle.carrier.specs.Waiting.{Posted, Taken};
 ghost use Rattle.row.specs.Order.{listed, room, listed_fits, TookAt};
@@ -9,23 +10,25 @@ use protocol::{Message, Refusal};
 use row::Row;
 use std::marker::PhantomData;
 
+/// A carrier that keeps messages in order of posting and takes one of those for a process as `K`
+/// chooses.
 #[derive(Drop)]
 pub struct Ordered<'a, K> {
     row: Row<'a>,
     choice: PhantomData<K>,
 }
 
-// A carrier that takes the oldest message for a process.
+/// A carrier that takes the oldest message for a process.
 pub type Queue<'a> = Ordered<'a, Oldest>;
 
-// A carrier that takes the newest message for a process.
+/// A carrier that takes the newest message for a process.
 pub type Pile<'a> = Ordered<'a, Newest>;
 
-// A carrier that takes the message that is picked among those for a process.
+/// A carrier that takes number pick modulo k of the k messages for a process, the oldest being 0.
 pub type Basket<'a> = Ordered<'a, Picked>;
 
 impl<'a, K: Choice> Ordered<'a, K> {
-    // Nothing waits yet.
+    /// Nothing waits yet, whatever the places hold. As many messages can wait as there are places.
     pub fn new(places: &'a mut [Message]) -> Ordered<'a, K>
         ensures none { listed result.row ≡ [] }
         ensures room { room result.row ≡ length places.old }

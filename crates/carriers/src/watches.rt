@@ -3,6 +3,7 @@ ghost use Rattle.std.specs.Prelude.{◌≡◌, None};
 
 use protocol::Message;
 
+/// A layer that carries as `C` does, and remembers the message that was taken last.
 #[derive(Drop)]
 pub struct Watch<C> {
     pub(crate) below: C,
@@ -10,6 +11,7 @@ pub struct Watch<C> {
 }
 
 impl<C> Watch<C> {
+    /// Nothing was taken yet, whatever waits below.
     pub fn new(below: C) -> Watch<C>
         ensures below { result.below ≡ below }
         ensures none { result.last ≡ None }
@@ -17,6 +19,7 @@ impl<C> Watch<C> {
         Watch { below, last: None }
     }
 
+    /// The message that was taken last through this layer, if any was.
     pub fn last(&self) -> Option<Message>
         ensures { result ≡ self.now.last }
     {

@@ -17,8 +17,15 @@ use plan::Line;
 use protocol::{Ballot, Refusal, Side, Subject};
 use rules::Advanced;
 
-// A correct process goes on to the next round of a case, by the valid ballots of the lowest originators. Where a third
-// round forces no side, the coin is tossed for its phase. After the last round nothing is sent and the case has ended.
+/// A correct process goes on to the next round of a case, by the valid ballots of the n - t lowest
+/// originators that have one. From the last round of a phase it may decide; where no side is forced
+/// there, the coin is tossed for this process, case and phase. From round 3p on nothing is sent,
+/// and the case has ended. Answers the round reached, from 2 to 3p + 1, and how many messages were
+/// posted: n, or 0 from round 3p.
+///
+/// Refused, in this order: the memory is too small (2), `process` is not below n (4) or faulty (6),
+/// `case` is not below c (7), the case is not opened or has ended, or fewer than n - t ballots of
+/// its round are valid (12), there is a round to come and free is below n (13).
 pub fn advance<C: Carrier, K: Coin>(
     line: &Line,
     memory: &mut Memory,
@@ -97,7 +104,7 @@ fn said<K: Coin>(next: Option<Ballot>, coin: &K, process: u8, case: u8, phase: u
     next.unwrap_or_else(|| Ballot::vote(coin.toss(process, case, phase)))
 }
 
-// Sends the next ballot, if there is one. No `map_or`, since a proof does not see there what the closure posts.
+// Sends the next ballot, if there is one. Answers how many messages these are.
 fn send_next<C: Carrier>(line: &Line, carrier: &mut C, next: Option<Subject>, ballot: Ballot) -> u64
     requires sender { IfSome next (λ s. originator_of s < 16) }
     requires room { room_for_ballot line.now next (C.capacity carrier.old) (C.waiting carrier.old) ≡ true }

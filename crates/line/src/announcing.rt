@@ -14,8 +14,11 @@ use plan::Line;
 use protocol::{Refusal, Subject};
 use rules::Announced;
 
-// A correct process sends the value to all under its next serial. That the capacity is kept stands beside what a turn answers, here
-// and in the other four: it holds whatever the answer is, and would be one more argument of each relation.
+/// A correct process sends a value to all, under its next serial. Answers this serial, from 0 to
+/// s - 1, and how many messages were posted, which is n.
+///
+/// Refused, in this order: the memory is too small (2), `process` is not below n (4) or faulty (6),
+/// its serials are used up (10), free is below n (13).
 pub fn announce<C: Carrier, I: Item>(
     line: &Line,
     memory: &mut Memory,

@@ -12,8 +12,12 @@ use memory::{CaseRecord, Memory};
 use plan::Line;
 use protocol::{Refusal, Subject};
 
-// A correct process votes in the first round of a case: 0 is keep, 1 release. The vote is a number, as a script can hold it, and
-// any other is refused; it is sent as it is, so it is not turned to a side and back. Answers how many messages were posted.
+/// A correct process opens a case and votes in its first round: 0 is keep, 1 release. Answers how
+/// many messages were posted, which is n.
+///
+/// Refused, in this order: the memory is too small (2), `process` is not below n (4) or faulty (6),
+/// `case` is not below c (7), `vote` is neither 0 nor 1 (9), the case was opened before (11), free
+/// is below n (13).
 pub fn open_case<C: Carrier>(
     line: &Line,
     memory: &mut Memory,

@@ -1,4 +1,4 @@
-// What calls on a line check first.
+// What calls on a line check.
 ghost use Rattle.std.specs.Prelude.{◌≡◌, ◌<◌, OnOk, ok_or};
 ghost use Rattle.protocol.specs.declared.refusals.Refusal.TheVariants.{SubjectOutOfPlan};
 ghost use Rattle.memory.specs.Contents.{held};
@@ -12,7 +12,7 @@ use memory::{Memory, case_place};
 use plan::Line;
 use protocol::Refusal;
 
-// Refused where the memory is too small, and where the plan has no such process.
+/// Refused where the memory is too small (2), and then where `process` is not below n (4).
 pub fn check_process(line: &Line, memory: &Memory, process: u64) -> Result<(), Refusal>
     ensures first { TestsAnswer result (process_tests line.now (held memory.now) process) }
     ensures within { OnOk result (process < line.now.plan.n) }
@@ -27,7 +27,7 @@ pub fn check_process(line: &Line, memory: &Memory, process: u64) -> Result<(), R
     Ok(())
 }
 
-// Refused for a faulty process too.
+/// Refused as `check_process`, and then where the process is faulty (6).
 pub fn check_correct(line: &Line, memory: &Memory, process: u64) -> Result<(), Refusal>
     ensures first { TestsAnswer result (correct_tests line.now (held memory.now) process) }
     ensures correct { OnOk result (Correct line.now process) }
@@ -39,8 +39,8 @@ pub fn check_correct(line: &Line, memory: &Memory, process: u64) -> Result<(), R
     Ok(())
 }
 
-// Where the memory has a process's record of a case. Refused for a case outside the plan, and for a process outside it too, which
-// is to be asked about before.
+/// The place of a process's record of a case among a memory's case records. Refused where `case` is
+/// not below c, or `process` not below n (7 for both: ask `check_process` about a process first).
 pub fn find_case(line: &Line, process: u64, case: u64) -> Result<usize, Refusal>
     ensures { result ≡ ok_or (case_place_of line.now.plan process case) SubjectOutOfPlan }
 {

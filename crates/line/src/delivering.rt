@@ -15,7 +15,15 @@ use plan::Line;
 use protocol::{Message, Refusal, Step};
 use rules::Delivered;
 
-// Hands a message that waits for the process over to it. A correct process sends what the message makes it send; a faulty one drops it.
+/// Takes one of the messages that wait for a process, and hands it over. A correct process does
+/// with it what its stage and the message's step say; a faulty one drops it, and so does a correct
+/// one where the sender or the subject lies outside the plan. The carrier chooses the message, by
+/// `pick` if it looks at it. Answers how many messages were posted (0, n or 2n), and whether the
+/// process accepted a body.
+///
+/// Refused, in this order: the memory is too small (2), `process` is not below n (4), nothing waits
+/// for it (8), it is correct and free is below 2n (13). The place of the message that is taken does
+/// not count as free.
 pub fn deliver<C: Carrier>(
     line: &Line,
     memory: &mut Memory,

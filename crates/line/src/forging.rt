@@ -10,7 +10,11 @@ use memory::{Memory, is_within};
 use plan::Line;
 use protocol::{Message, Refusal};
 
-// A faulty process posts any message of its own. Answers how many were posted, which is 1.
+/// A faulty process posts any message of its own. Answers how many were posted, which is 1. The
+/// memory is only looked at for its size.
+///
+/// Refused, in this order: the memory is too small (2), the sender or the addressee is not below n
+/// (4), the sender is correct (6), the subject lies outside the plan (7), nothing is free (13).
 pub fn forge<C: Carrier>(
     line: &Line,
     memory: &Memory,

@@ -1,5 +1,5 @@
-// Opening a line, and the five turns on it. Line, memory and carrier are the caller's, and each call is handed them one by one:
-// reading and slips get only the first two.
+//! Opening a line, and the five turns on it. Line, memory and carrier are the caller's, and each
+//! call is handed those that it needs. A refused call leaves all of them as they were.
 #![tactic(auto)]
 
 pub mod advancing;

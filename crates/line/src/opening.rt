@@ -7,8 +7,10 @@ use memory::Memory;
 use plan::{Draft, Line};
 use protocol::Refusal;
 
-// Clears the memory and makes the draft a line. A refusal gives the draft back, in a pair as slips do: whoever goes on needs both
-// parts, and a struct would be taken apart by the same pattern.
+/// Clears the places of memory that the plan needs, and makes the draft a line. The carrier is only
+/// looked at. A refusal gives the draft back, to be marked further or opened elsewhere.
+///
+/// Refused, in this order: the memory is too small (2), a message waits in the carrier (3).
 pub fn open_line<C: Carrier>(
     draft: Draft,
     memory: &mut Memory,

@@ -1,4 +1,4 @@
-// Sending to all processes of a line. That a sender is below 16, as in any message, has no name in the clauses: none is plainer.
+// Sending to all processes of a line.
 ghost use Rattle.std.specs.Prelude.{◌≡◌, ◌<◌, length};
 ghost use Rattle.protocol.specs.Messages.{originator_of};
 ghost use Rattle.protocol.specs.Sending.{to_all};
@@ -9,7 +9,7 @@ use carrier::Carrier;
 use plan::Line;
 use protocol::{Message, Step, Subject};
 
-// The originator of a subject sends its body to all. Answers how many messages these are, as the next two do.
+// The originator of a subject sends its body to all. Answers how many messages these are.
 pub(crate) fn send_initials<C: Carrier>(
     line: &Line,
     carrier: &mut C,
@@ -25,7 +25,8 @@ pub(crate) fn send_initials<C: Carrier>(
     send_to_all(line, carrier, sender, Step::Initial, subject, body)
 }
 
-// The addressee of a message sends the message's body on to all, in the given step.
+// The addressee of a message sends the message's body on to all, in the given step. Answers how
+// many messages these are.
 pub(crate) fn pass_on<C: Carrier>(
     line: &Line,
     carrier: &mut C,
@@ -46,8 +47,7 @@ pub(crate) fn pass_on<C: Carrier>(
     )
 }
 
-// Posts a message to each process of the line, where there is room for them. Sender, step, subject and body are no struct: only
-// the two above hand them on.
+// Posts a message to each process of the line, from 0 up. Answers how many messages these are.
 fn send_to_all<C: Carrier>(
     line: &Line,
     carrier: &mut C,

@@ -1,4 +1,4 @@
-// Messages over lent memory, in order of posting: what queue, pile and basket have in common.
+//! Messages over lent memory, in order of posting: what queue, pile and basket have in common.
 #![tactic(auto)]
 
 pub mod rows;

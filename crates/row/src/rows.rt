@@ -6,11 +6,11 @@ ghost use Rattle.protocol.specs.Bags.{waiting_for};
 
 use protocol::{Message, Refusal};
 
-// The first `held` places have the messages that wait, in order of posting. The places are lent, so it is no list of its own.
-// It has no `==`: what stands behind the held places counts for nothing.
+/// Messages that wait, in order of posting, each in a lent place.
 #[derive(Debug, Drop)]
 pub struct Row<'a> {
     places: &'a mut [Message],
+    // How many places are taken: the first ones. What the others hold counts for nothing.
     held: usize,
     ghost within: { held ≤ length places.now },
 }
@@ -18,7 +18,7 @@ pub struct Row<'a> {
 impl<'a> Row<'a> {
     ghost use Rattle.row.specs.Order.{listed, room, standing, answer_at, left_at, pushed};
 
-    // Nothing waits yet.
+    /// Nothing waits yet, whatever the places hold. As many messages can wait as there are places.
     pub fn new(places: &'a mut [Message]) -> Row<'a>
         ensures none { listed result ≡ [] }
         ensures room { room result ≡ length places.old }
@@ -33,6 +33,7 @@ impl<'a> Row<'a> {
         &self.places[..self.held]
     }
 
+    /// How many places are free. A larger number is answered as 2^32 - 1.
     pub fn free(&self) -> u32
         ensures { result ≡ capped (room self.now - length (listed self.now)) }
     {
@@ -40,7 +41,7 @@ impl<'a> Row<'a> {
         u32::try_from(free).unwrap_or(u32::MAX)
     }
 
-    // How many messages wait for a process.
+    /// How many messages wait for a process.
     pub fn count_for(&self, process: u64) -> u64
         ensures { result ≡ waiting_for process (listed self.now) }
     {
@@ -48,12 +49,14 @@ impl<'a> Row<'a> {
         waiting.filter(|m| m.addressee() == process).count() as u64
     }
 
+    /// The same. A larger number is answered as 2^32 - 1.
     pub fn waiting_for(&self, process: u64) -> u32
         ensures { result ≡ capped (waiting_for process (listed self.now)) }
     {
         u32::try_from(self.count_for(process)).unwrap_or(u32::MAX)
     }
 
+    /// Adds a message behind the others. Refused where no place is free (13).
     pub fn post(&mut self, message: Message) -> Result<(), Refusal>
         ensures room { room self.new ≡ room self.old }
         ensures posted { Posted result message (room self.old) (listed self.old) (listed self.new) }
@@ -92,7 +95,8 @@ impl<'a> Row<'a> {
         message
     }
 
-    // Takes that number, from 0, of the messages for a process, the oldest first.
+    /// Takes that number, from 0, of the messages for a process, the oldest first. The others keep
+    /// their order. Refused where not so many wait for it (8).
     pub fn take(&mut self, process: u64, number: u64) -> Result<Message, Refusal>
         ensures room { room self.new ≡ room self.old }
         ensures answer { result ≡ answer_at process number (listed self.old) }

@@ -1,22 +1,28 @@
 // What turns answer.
 
-// The serial of the item, and how many messages were posted.
+/// What announcing answers.
 #[derive(Clone, Copy, Debug, PartialEq, Eq)]
 pub struct Announced {
+    /// The item's serial, from 0 to s - 1.
     pub serial: u64,
+    /// How many messages were posted.
     pub posted: u64,
 }
 
-// How many messages were posted, and whether the process accepted a body.
+/// What delivering answers.
 #[derive(Clone, Copy, Debug, PartialEq, Eq)]
 pub struct Delivered {
+    /// How many messages were posted.
     pub posted: u64,
+    /// Whether the process accepted a body by this message.
     pub accepted: bool,
 }
 
-// The round that was reached, and how many messages were posted.
+/// What advancing answers.
 #[derive(Clone, Copy, Debug, PartialEq, Eq)]
 pub struct Advanced {
+    /// The round that was reached, up to 3p + 1.
     pub round: u64,
+    /// How many messages were posted.
     pub posted: u64,
 }

@@ -1,5 +1,5 @@
-//! The rules of turns, what a run of turns tells, and what holds of every run. No code runs here: each function carries a
-//! theorem.
+//! The rules of turns, what a run of turns tells, and what holds of every run. No code runs here:
+//! each function carries a theorem.
 #![tactic(auto)]
 
 pub mod answers;
@@ -14,13 +14,13 @@ ghost use Rattle.rules.specs.Runs.{Event};
 
 pub use answers::{Advanced, Announced, Delivered};
 
-// After every run, for every coin: agreement and validity; at rest everything is accepted alike and every case that all
-// opened has ended; a coin that shows what is forced decides.
+/// After every run, for every coin: agreement and validity; at rest everything is accepted alike and
+/// every case that all opened has ended; a coin that shows what is forced decides.
 pub fn runs_keep_promises()
     ensures { (line : Line) (capacity : ℕ) (coin : Coin) → PromisesKept line capacity coin }
 {}
 
-// All that these promises speak of comes about in some run, with room for three messages.
+/// All that these promises speak of comes about in some run, with room for three messages.
 pub fn runs_happen()
     ensures { (line : Line) × (coin : Coin) × (es : List Event) × (h : Held) × Happening line 3 coin es h }
 {}

@@ -1,4 +1,4 @@
-// Whole runs of a line: one turn of any kind, and a list of them from an opening.
+//! Whole runs of a line: one turn of any kind, and a list of them from an opening.
 #![tactic(auto)]
 
 pub mod performing;

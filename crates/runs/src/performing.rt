@@ -12,6 +12,8 @@ use memory::Memory;
 use plan::Line;
 use protocol::Refusal;
 
+/// Makes one turn of any kind and answers what it answers. Refused as the turn is, by the first of
+/// its refusals that fits; then memory and carrier are as they were.
 pub fn perform<C: Carrier, K: Coin, I: Item>(
     line: &Line,
     memory: &mut Memory,

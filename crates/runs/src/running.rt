@@ -13,7 +13,10 @@ use memory::Memory;
 use plan::{Draft, Line};
 use protocol::Refusal;
 
-// Opens the line and makes the turns one after another, refused ones too. A refused opening gives the draft back.
+/// Opens the line and makes the turns one after another, refused ones too, which change nothing.
+/// Answers the line. A refused opening gives the draft back, and no turn is made.
+///
+/// Refused, in this order: the memory is too small (2), a message waits in the carrier (3).
 pub fn run<C: Carrier, K: Coin, I: Item>(
     draft: Draft,
     memory: &mut Memory,
@@ -31,7 +34,8 @@ pub fn run<C: Carrier, K: Coin, I: Item>(
     Ok(line)
 }
 
-// The same over a coin that shows every process the same side, and so decides: it runs alike and promises more.
+/// The same, over a coin that shows every process the same side: so the promise that a shared coin
+/// decides needs no premise on the coin.
 pub fn run_shared<C: Carrier, K: SharedCoin, I: Item>(
     draft: Draft,
     memory: &mut Memory,

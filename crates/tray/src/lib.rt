@@ -1,4 +1,4 @@
-// A layer over any carrier, which keeps some messages itself.
+//! A layer over any carrier, which keeps some messages itself.
 #![tactic(auto)]
 
 mod tables;

@@ -1,4 +1,5 @@
-// The messages that a tray keeps itself: putting them into the places of a table and taking them out.
+// The messages that a tray keeps itself: putting them into the places of a table and taking them
+// out.
 ghost use Rattle.std.specs.Prelude.{◌≡◌, ◌-◌, [], length, OnErr};
 ghost use Rattle.std.specs.List.{position};
 ghost use Rattle.carrier.specs.Waiting.{Posted, Taken};
@@ -7,7 +8,7 @@ ghost use Rattle.tray.specs.Tables.{kept, is_for, is_free};
 
 use protocol::{Message, Refusal};
 
-// Each place has a message or is free, in no order, so it has no `==`. A plain table, as docs/DECISIONS.md gives it.
+/// Each place has a message or is free, in no order.
 #[derive(Debug, Drop)]
 pub struct Table {
     places: [Option<Message>; 8],
@@ -21,7 +22,7 @@ fn is_for(place: Option<Message>, process: u64) -> bool
 }
 
 impl Table {
-    // All places are free.
+    /// All places are free.
     #[tactic(auto, unfolding(crate::specs::Tables::messages))]
     pub fn new() -> Table
         ensures { kept result.places ≡ [] }
@@ -29,14 +30,14 @@ impl Table {
         Table { places: [None; 8] }
     }
 
-    // How many places are free.
+    /// How many places are free.
     pub fn free(&self) -> u32
         ensures { result ≡ 8 - length (kept self.now.places) }
     {
         self.places.iter().filter(|place| place.is_none()).count() as u32
     }
 
-    // How many messages wait for a process.
+    /// How many messages wait for a process.
     pub fn waiting_for(&self, process: u64) -> u32
         ensures { result ≡ waiting_for process (kept self.now.places) }
     {
@@ -58,7 +59,7 @@ impl Table {
         self.places.iter().position(|place| is_for(*place, process))
     }
 
-    // Keeps the message in the first free place.
+    /// Keeps the message in the first free place. Refused where none is free (13).
     pub fn post(&mut self, message: Message) -> Result<(), Refusal>
         ensures posted { Posted result message 8 (kept self.old.places) (kept self.new.places) }
         ensures untouched { OnErr result (self.new ≡ self.old) }
@@ -68,7 +69,7 @@ impl Table {
         Ok(())
     }
 
-    // Takes the message for the process that stands first.
+    /// Takes the message for the process that stands first. Refused where there is none (8).
     pub fn take(&mut self, process: u64) -> Result<Message, Refusal>
         ensures taken { Taken result process (kept self.old.places) (kept self.new.places) }
         ensures untouched { OnErr result (self.new ≡ self.old) }

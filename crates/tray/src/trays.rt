@@ -8,8 +8,9 @@ use crate::tables::Table;
 use carrier::Carrier;
 use protocol::{Message, Refusal};
 
-// It keeps a message itself while one of its 8 places is free, and posts it below when none is.
-// It takes from its own places first, and from below where none of its own messages is for the process.
+/// A layer of 8 places over the carrier `below`. It keeps a message itself while one of its places
+/// is free, and posts it below when none is. It takes from its own places first, and from below
+/// where none of its own messages is for the process.
 #[derive(Debug, Drop)]
 pub struct Tray<C> {
     table: Table,
@@ -17,7 +18,7 @@ pub struct Tray<C> {
 }
 
 impl<C: Carrier> Tray<C> {
-    // The places of the tray are free, whatever waits below.
+    /// The places of the tray are free, whatever waits below.
     pub fn new(below: C) -> Tray<C>
         ensures none { kept result.table.places ≡ [] }
         ensures below { result.below ≡ below }
@@ -29,8 +30,7 @@ impl<C: Carrier> Tray<C> {
     }
 }
 
-// A tray says nothing of the order in which it takes messages. Its two `match` are no `or_else`, since a proof does not
-// see there what the closure changes below.
+// A tray says nothing of the order in which it takes messages.
 impl<C: Carrier> Carrier for Tray<C> {
     ghost waiting = { λ x. kept x.table.places ++ C.waiting x.below };
 
