@@ -1,5 +1,5 @@
 // A carrier that keeps messages in order of posting, and takes one of those for a process by a
-// rule.
+// rule. A post or take that it refuses leaves it as it was, in every place that was lent to it.
 ghost use Rattle.std.specs.Prelude.{◌≡◌, [], ◌∷◌, ◌++◌, length, IfOk, OnErr, OnOk};
 ghost use Rattle.carrier.specs.Waiting.{Posted, Taken};
 ghost use Rattle.row.specs.Order.{listed, room, listed_fits, TookAt};

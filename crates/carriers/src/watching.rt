@@ -1,4 +1,4 @@
-// A layer carries as what lies below it does.
+// A layer carries as what lies below it does. What it remembers is the same after a refusal.
 ghost use Rattle.std.specs.Prelude.{◌≡◌, Some, OnErr, OnOk, IfOk};
 ghost use Rattle.carrier.specs.Waiting.{Posted, Taken};
 

@@ -52,7 +52,8 @@ pub fn deliver<C: Carrier>(
     })
 }
 
-// Refused where nothing waits for the process, and where a correct one may have to send more than there is room for.
+// Refused where nothing waits for the process, and where a correct one may have to send more than
+// there is room for.
 fn check_delivery<C: Carrier>(line: &Line, carrier: &C, process: u64) -> Result<(), Refusal>
     ensures { LastTestsAnswer result (delivery_tests line.now process (C.capacity carrier.now) (C.waiting carrier.now)) }
 {

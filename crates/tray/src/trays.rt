@@ -30,7 +30,8 @@ impl<C: Carrier> Tray<C> {
     }
 }
 
-// A tray says nothing of the order in which it takes messages.
+// A tray says nothing of the order in which it takes messages. Where it refuses, its own places are
+// as they were.
 impl<C: Carrier> Carrier for Tray<C> {
     ghost waiting = { λ x. kept x.table.places ++ C.waiting x.below };
 

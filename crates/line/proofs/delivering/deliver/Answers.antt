@@ -13,9 +13,9 @@ unwrap-message-requires g c = take_ok c.args.line.now c.args.process _ _ c.in_ok
 pub returns-then-is_faulty-clause-turn : goal.returns-then-is_faulty-clause-turn
 returns-then-is_faulty-clause-turn g c =
     let carrier = g.C.Carrier in
-    let taken = c.take.ensures in
-    took (rw c.unwrap-message.ensures at taken.taken) c.args.line.now {waiting = carrier.waiting} {capacity = carrier.capacity} (outcome (held c.args.memory.now) nothing) refl (rw c.unwrap-message.ensures at taken.told) c.in_ok-check_process.ensures.first c.in_ok-check_delivery.ensures
-    (drops (rw c.unwrap-message.ensures at taken.taken) c.args.line.now _ (sym c.is_faulty.ensures.value ∙ c.if-is_faulty.true))
+    let removed = rw c.unwrap-message.ensures at c.take.ensures.taken in
+    took removed c.args.line.now {waiting = carrier.waiting} {capacity = carrier.capacity} (outcome (held c.args.memory.now) nothing) refl (rw c.unwrap-message.ensures at c.take.ensures.told) c.in_ok-check_process.ensures.first c.in_ok-check_delivery.ensures
+    (drops removed c.args.line.now _ (sym c.is_faulty.ensures.value ∙ c.if-is_faulty.true))
     refl
     (nothing_sent carrier.waiting carrier.capacity carrier.posting c.take.new.self)
     refl
@@ -23,16 +23,16 @@ returns-then-is_faulty-clause-turn g c =
 
 pub reply-posted-requires : goal.reply-posted-requires
 reply-posted-requires g c =
-    let taken = c.take.ensures in
+    let removed = rw c.unwrap-message.ensures at c.take.ensures.taken in
     let role : faulty c.args.line.now c.args.process ≡ false = sym c.is_faulty.ensures.value ∙ c.if-is_faulty.false in
-    omega (arith, room_left (rw c.unwrap-message.ensures at taken.taken) c.args.line.now (g.C.Carrier.fits c.args.carrier.now) c.in_ok-check_delivery.ensures role, taken.kept)
+    omega (arith, room_left removed c.args.line.now (g.C.Carrier.fits c.args.carrier.now) c.in_ok-check_delivery.ensures role, c.take.ensures.kept)
 
 pub returns-clause-turn : goal.returns-clause-turn
 returns-clause-turn g c =
     let carrier = g.C.Carrier in
-    let taken = c.take.ensures in
-    took (rw c.unwrap-message.ensures at taken.taken) c.args.line.now {waiting = carrier.waiting} {capacity = carrier.capacity} (outcome (held c.receive-reaction.new.memory) c.receive-reaction.result) refl (rw c.unwrap-message.ensures at taken.told) c.in_ok-check_process.ensures.first c.in_ok-check_delivery.ensures
-    (reacts (rw c.unwrap-message.ensures at taken.taken) c.args.line.now _ (sym c.is_faulty.ensures.value ∙ c.if-is_faulty.false) c.plan.ensures c.receive-reaction.ensures)
+    let removed = rw c.unwrap-message.ensures at c.take.ensures.taken in
+    took removed c.args.line.now {waiting = carrier.waiting} {capacity = carrier.capacity} (outcome (held c.receive-reaction.new.memory) c.receive-reaction.result) refl (rw c.unwrap-message.ensures at c.take.ensures.told) c.in_ok-check_process.ensures.first c.in_ok-check_delivery.ensures
+    (reacts removed c.args.line.now _ (sym c.is_faulty.ensures.value ∙ c.if-is_faulty.false) c.plan.ensures c.receive-reaction.ensures)
     refl
     c.reply-posted.ensures.sent
     c.reply-posted.ensures.count
