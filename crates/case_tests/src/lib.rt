@@ -1,4 +1,4 @@
-// Tests of cases through the turns of a line.
+//! Tests of cases through the turns of a line.
 #![tactic(auto)]
 
 #[cfg(test)]

@@ -12,7 +12,7 @@ mod slipping;
 mod tossing;
 mod valid;
 
-// `assert_eq!` in one place: it is proved anew wherever it stands, and a call is proved in half of the time.
+// Fails, and shows both values, where they differ.
 fn assert_same<T: PartialEq + Debug + Drop>(rt: &impl Abort, found: T, expected: T) {
     assert_eq!(rt; found, expected);
 }

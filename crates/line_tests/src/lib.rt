@@ -1,4 +1,4 @@
-// Tests of the calls on a line, over several carriers.
+//! Tests of the calls on a line, over several carriers.
 #![tactic(auto)]
 
 #[cfg(test)]

@@ -1,5 +1,4 @@
-// What the tests share. Memories stand in each test: with const parameters for their sizes, bounds on the products of
-// these stay open.
+// What the tests share.
 use carrier::Carrier;
 use item::Item;
 use line::{announce, deliver, forge, open_line};
@@ -38,7 +37,6 @@ const NOTHING: Delivered = Delivered {
     accepted: false,
 };
 
-// The tests of parts have these two as well.
 fn item(originator: u64, serial: u64) -> Subject {
     Subject::Item { originator, serial }
 }
@@ -96,7 +94,7 @@ impl<'h, 'm, 'c, C: Carrier> Hall<'h, 'm, 'c, C> {
         deliver(&self.line, self.memory, self.carrier, process, pick)
     }
 
-    // The body stands for the value: a table cannot make one.
+    // What the process has accepted, with the body that a value packs to in place of the value.
     fn read<I: Item + Drop>(
         &self,
         process: u64,
@@ -124,7 +122,7 @@ impl<'h, 'm, 'c, C: Carrier> Hall<'h, 'm, 'c, C> {
     }
 }
 
-// `assert_eq!` in one place: it is proved anew wherever it stands, and a call is proved in half of the time.
+// Fails, and shows both values, where they differ.
 fn assert_same<T: PartialEq + Debug + Drop>(rt: &impl Abort, found: T, expected: T) {
     assert_eq!(rt; found, expected);
 }

@@ -1,4 +1,4 @@
-// Tests of what the turns are made of. They stand in one crate, since the gate would prove each crate with tests of its own twice.
+//! Tests of what the turns are made of.
 #![tactic(auto)]
 
 #[cfg(test)]

@@ -13,14 +13,14 @@ mod refusals;
 mod steps;
 mod validity;
 
-// The tests of cases through the turns have this too.
+// The record of a subject for which this body was accepted.
 fn accepted(body: u64) -> BroadcastRecord {
     BroadcastRecord {
         stage: Stage::Accepted(body),
     }
 }
 
-// `assert_eq!` in one place: it is proved anew wherever it stands, and a call is proved in half of the time.
+// Fails, and shows both values, where they differ.
 fn assert_same<T: PartialEq + Debug + Drop>(rt: &impl Abort, found: T, expected: T) {
     assert_eq!(rt; found, expected);
 }

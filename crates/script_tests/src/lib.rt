@@ -1,4 +1,4 @@
-// Tests of whole scripts, checked and acted on.
+//! Tests of whole scripts, checked and acted on.
 #![tactic(auto)]
 
 #[cfg(test)]

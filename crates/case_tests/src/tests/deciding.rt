@@ -70,7 +70,6 @@ fn decide<C: Carrier>(rt: &impl Abort, carrier: &mut C) -> Result<(), Fail> {
     decide_in_haste(rt, carrier)
 }
 
-// Four tests alike, as each goes by the name of a carrier: they differ in type, which no table takes.
 #[test]
 fn cases_end_over_a_queue(rt: HostRuntime) -> Result<(), Fail> {
     decide(&rt, &mut Queue::new(&mut [Message::BLANK; 2000]))

@@ -35,15 +35,14 @@ impl<'v> Row<'v> {
     }
 }
 
-// Ballots stand as numbers in the tests: a table cannot call `number`, and some bodies are no ballot's. The tests of
-// parts have this too.
+// The record of a subject for which this body was accepted: a ballot's number, or any other.
 pub(crate) fn accepted(body: u64) -> BroadcastRecord {
     BroadcastRecord {
         stage: Stage::Accepted(body),
     }
 }
 
-// The line alone: a hall that is made here comes in a `Result`, which the borrow checker does not cover.
+// The line of a draft, opened over a memory and a carrier.
 pub(crate) fn opened<C: Carrier>(
     draft: Draft,
     memory: &mut Memory,

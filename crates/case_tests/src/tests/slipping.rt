@@ -1,4 +1,4 @@
-// Slips on their own line and on others. Who holds a slip cannot leave by `?`: no test may end with a slip.
+// Slips on their own line and on others. Every test gives its slips back before it ends.
 use crate::tests::assert_same;
 use memory::{BroadcastRecord, CaseRecord, Decision, Memory, Slip};
 use plan::{Draft, Line, Plan};

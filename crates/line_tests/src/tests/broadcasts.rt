@@ -34,8 +34,7 @@ impl<'h, 'm, 'c, C: Carrier> Hall<'h, 'm, 'c, C> {
         Ok(count)
     }
 
-    // Process 3 tells others of its own first item, 0 for nothing: in the tables of stories Some and None would hide the
-    // bodies.
+    // Process 3 tells the others of its own first item: a body each, or 0 where it tells nothing.
     fn tell(&mut self, step: Step, bodies: [u64; 3]) -> Result<(), Refusal> {
         for (addressee, body) in (0..).zip(bodies) {
             if body > 0 {
@@ -97,7 +96,7 @@ fn reaches_all<C: Carrier>(
     Ok(())
 }
 
-// A call for each carrier: they differ in type, which no closure and no table takes.
+// Over each carrier, an item reaches all.
 fn reaches_all_by_each(
     rt: &impl Abort,
     plan: Plan,

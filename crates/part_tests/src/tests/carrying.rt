@@ -87,7 +87,6 @@ fn a_tray_over_a_tray_over_a_queue_holds_sixteen_more(rt: HostRuntime) -> Result
     under_two_trays(&rt, Queue::new(&mut places), 19)
 }
 
-// Three tests alike, as each goes by the name of a carrier.
 #[test]
 fn a_queue_takes_the_oldest(rt: HostRuntime) -> Result<(), Fail> {
     let mut places = [Message::BLANK; 5];

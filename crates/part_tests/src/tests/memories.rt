@@ -14,7 +14,6 @@ const OPENED: CaseRecord = CaseRecord {
     slip: Slip::Out,
 };
 
-// The tests of a line have these two as well: a crate for three constructors would be a library with contracts of its own.
 fn item(originator: u64, serial: u64) -> Subject {
     Subject::Item { originator, serial }
 }
