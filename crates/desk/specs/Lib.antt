@@ -1,3 +1,4 @@
 pub mod Act
 pub mod Desk
+pub mod Telling
 pub mod Wording

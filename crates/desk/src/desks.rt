@@ -22,11 +22,13 @@ pub struct Desk<'a> {
 
 impl Desk<'_> {
     ghost use Rattle.desk.specs.Desk.{state, places, desk_after, acts};
+    ghost use Rattle.desk.specs.Telling.{Tells};
 
     // Before a line is open only a form for one is in its place, and from then on only turns are. The coin of all turns
     // always shows keep.
     pub fn act_on(&mut self, form: Form) -> Result<Said, Refusal>
         ensures step { desk_after result (state self.new) ≡ acts (places self.old) (state self.old) form }
+        ensures law { Tells (places self.old) (state self.old) form result (state self.new) }
         ensures kept { places self.new ≡ places self.old }
     {
         match &self.line {
