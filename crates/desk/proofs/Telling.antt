@@ -35,7 +35,7 @@ use Rattle.runs.specs.declared.turns.Answer.{Answer}
 use Rattle.desk.specs.declared.said.Said.{Said}
 use Rattle.desk.specs.Act.{Acted, takes, goes, doing, acting_by, act}
 use Rattle.desk.specs.Desk.{AtDesk, desk, DeskAfter, desk_after, keeping, past, marking, LineMade, line_made, opens_with, opens_marked, opens_planned, opens, asks, answered, turns, turned, begins, acts_at, acts}
-use Rattle.desk.specs.Telling.{AsksFor, LineRefused, no_plan, no_marks, not_opened, OpensNone, none_opened, line_opened, no_turn, by_turn, KeptOn, Tells}
+use Rattle.desk.specs.Telling.{AsksFor, no_plan, no_marks, not_opened, OpensNone, none_opened, line_opened, no_turn, by_turn, KeptOn, Tells}
 use Rattle.desk.proofs.Lines.{line_of_lem}
 
 -- what is done is what an event of the turn does that happens

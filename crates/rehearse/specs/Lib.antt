@@ -1,1 +1,2 @@
 pub mod Rehearsed
+pub mod Session

@@ -1,8 +1,9 @@
-ghost use Rattle.std.specs.Prelude.{◌≡◌, IfOk, refl};
+ghost use Rattle.std.specs.Prelude.{◌≡◌, ◌≤◌, length, IfOk, refl};
 ghost use Rattle.text.specs.Shown.{shown, Appends};
 ghost use Rattle.desk.specs.Desk.{state, places};
 ghost use Rattle.desk.specs.Wording.{said_text};
 ghost use Rattle.rehearse.specs.Rehearsed.{answers, rehearsed};
+ghost use Rattle.rehearse.specs.Session.{Rehearsal};
 
 use carriers::Basket;
 use desk::{Desk, Said};
@@ -41,9 +42,12 @@ impl Responder for Rehearser<'_> {
 }
 
 /// Acts on a script line by line: each line gets the answer of its form, or its fault.
-/// The memory is for five processes, and the basket is empty.
+/// The memory is for five processes, and the basket, which is empty, has 400 places. From the form
+/// that opens a line on, the answers are those of a run, and the promises hold behind each. A script
+/// of more than 4,096 bytes is refused whole (2). It fails only where the heap gives no memory.
 pub fn rehearse(heap: Global, input: &[u8]) -> Result<Text, NoMemory>
-    ensures { IfOk result (λ t. shown t ≡ rehearsed input.now) }
+    ensures value { IfOk result (λ t. shown t ≡ rehearsed input.now) }
+    ensures law { IfOk result (λ t. length input.now ≤ 4096 → Rehearsal input.now (shown t)) }
 {
     let memory = Memory {
         broadcasts: &mut [BroadcastRecord::SILENT; 275],
