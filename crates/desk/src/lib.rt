@@ -1,4 +1,5 @@
-// A desk at which the forms of a script are acted on: a line once one is open, its memory and a basket.
+//! A desk at which the forms of a script are acted on: a line once one is open, its memory and a
+//! basket.
 #![tactic(auto)]
 
 mod desks;

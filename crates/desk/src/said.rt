@@ -4,16 +4,19 @@ ghost use Rattle.text.specs.Shown.{Appends};
 use runs::Answer;
 use text::{NoMemory, Text};
 
+/// What a form that was acted on is answered.
 #[derive(Clone, Copy, Debug, PartialEq, Eq)]
 pub enum Said {
+    /// The line was opened.
     Opened,
+    /// The turn was made, and answered this.
     Did(Answer),
 }
 
 impl Said {
     ghost use Rattle.desk.specs.Wording.{answer_text, said_text};
 
-    // Adds the answer's text to a text.
+    /// Adds the answer's text to a text, without a line break. It fails only as `Text::put` does.
     pub fn write_to(self, text: Text) -> Result<Text, NoMemory>
         ensures { Appends result text (said_text self) }
     {

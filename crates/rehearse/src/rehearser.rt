@@ -33,7 +33,6 @@ impl Responder for Rehearser<'_> {
         Ok(self.desk.act_on(form)?)
     }
 
-    // The clause of the trait: the check does not hand it on to a function without self where the type has a lifetime.
     fn write(said: Said, text: Text) -> Result<Text, NoMemory>
         ensures { Appends result text (said_text said) }
     {
