@@ -13,4 +13,5 @@ pub mod Told
 pub mod Theorem
 pub mod Example
 pub mod Draining
+pub mod Playing
 pub mod Withstanding

@@ -25,8 +25,8 @@ pub fn runs_happen()
     ensures { (line : Line) × (coin : Coin) × (es : List Event) × (h : Held) × Happening line 3 coin es h }
 {}
 
-/// And with a faulty process among four, with room for 32 messages: it tells another process what
-/// was not announced, and at rest all correct processes have accepted what was.
+/// And all this beside a faulty process, among four, with room for 32 messages: it tells another
+/// one what was not announced, and all correct processes accept what was.
 pub fn runs_with_faults_happen()
     ensures { (line : Line) × (coin : Coin) × (es : List Event) × (h : Held) × Withstood 4 1 line 32 coin es h }
 {}
