@@ -68,7 +68,7 @@ pub record Recorded (line : Line) (es : List Event) (h : Held) : Type 0 where
   pub kept : (s : Subject) (i b : ℕ) → Correct line i → Accepted es i s b → body_at line.plan h i s ≡ Some b
   pub only : (s : Subject) (i b : ℕ) → Correct line i → within line.plan s ≡ true → body_at line.plan h i s ≡ Some b → Accepted es i s b
   pub inside : (s : Subject) (i b : ℕ) → Accepted es i s b → within line.plan s ≡ true
-  -- It has no decision where the run tells none.
+  -- Its decision is the one that the run tells; it has none where the run tells none.
   pub decided : (i c : ℕ) → Correct line i → c < line.plan.cases → (v : Side) (k : ℕ) → ((case_at h (case_place line.plan i c)).decision ≡ Some (record { side = v; phase = k })) ↔ Decided es i c v k
   -- Its round is above 0 exactly if it opened the case, and above 3k exactly if it ended phase k.
   pub opened : (i c : ℕ) → Correct line i → ((v : Side) × Opened es i c v) ↔ ((c < line.plan.cases) × (0 < round_at line.plan h i c))
