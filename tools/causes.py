@@ -32,8 +32,8 @@ MAKERS = re.compile(
 
 
 def code(source):
-    """A source without its comments and its texts in quotes, in which lines keep their numbers."""
-    return re.sub(r'//[^\n]*|b?"(?:[^"\\]|\\.)*"', lambda m: "\n" * m.group().count("\n"), source)
+    """A source without its comments and what stands in quotes, in which lines keep their numbers."""
+    return re.sub(r"""//[^\n]*|'(?:[^'\\]|\\.)'|"(?:[^"\\]|\\.)*\"""", lambda m: "\n" * m.group().count("\n"), source)
 
 
 def in_text(source):
