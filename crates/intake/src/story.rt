@@ -1,5 +1,5 @@
 // Who tells the story, in which order, and what its parts share.
-use crate::words::{Told, said};
+use crate::words::{Said, Told};
 use anyhow::Context;
 use carrier::Carrier;
 use carriers::Watch;
@@ -100,7 +100,7 @@ impl<'a, R: Print, C: Carrier> Story<'a, R, C> {
         let sender = message.sender();
         let what = Told(message.step());
         let about = Told(message.subject());
-        let value = Told(said(&message)?);
+        let value = Told(Said::of(&message)?);
         let sent = delivered.posted;
         let entered = if delivered.accepted { "it" } else { "nothing" };
         println!(self.rt;

@@ -99,24 +99,26 @@ pub(crate) enum Said {
     Ballot(Ballot),
 }
 
+impl Said {
+    pub(crate) fn of(message: &Message) -> anyhow::Result<Said> {
+        match message.subject() {
+            Subject::Item { .. } => {
+                let record = Record::unpack(message.body()).context("no record has this body")?;
+                Ok(Said::Shelf(record.shelf()))
+            }
+            Subject::Ballot { .. } => {
+                let ballot = Ballot::unpack(message.body()).context("no ballot has this body")?;
+                Ok(Said::Ballot(ballot))
+            }
+        }
+    }
+}
+
 impl fmt::Display for Told<Said> {
     fn fmt<W: fmt::Write>(&self, f: &mut fmt::Formatter<W>) -> fmt::Result {
         match self.0 {
             Said::Shelf(shelf) => write!(f, "shelf {shelf}"),
             Said::Ballot(ballot) => Told(ballot).fmt(f),
-        }
-    }
-}
-
-pub(crate) fn said(message: &Message) -> anyhow::Result<Said> {
-    match message.subject() {
-        Subject::Item { .. } => {
-            let record = Record::unpack(message.body()).context("no record has this body")?;
-            Ok(Said::Shelf(record.shelf()))
-        }
-        Subject::Ballot { .. } => {
-            let ballot = Ballot::unpack(message.body()).context("no ballot has this body")?;
-            Ok(Said::Ballot(ballot))
         }
     }
 }
