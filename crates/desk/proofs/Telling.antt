@@ -19,7 +19,8 @@ use Rattle.memory.specs.Contents.{Held, cleared, serial_at}
 use Rattle.memory.specs.Places.{enough}
 use Rattle.row.specs.Order.{answer_at, left_at, picked}
 use Rattle.row.proofs.Order as order
-use Rattle.cases.specs.Steps.{round_at, may_advance, step_at}
+use Rattle.cases.proofs.Going.{law}
+use Rattle.cases.specs.Steps.{round_at, may_advance, step_at, chosen}
 use Rattle.cases.specs.declared.steps.Step.{Step}
 use Rattle.line.specs.Opening.{open_refusal}
 use Rattle.line.proofs.Opened.{opened_idle}
@@ -77,6 +78,8 @@ module _ (line : Line) (coin : Coin) (h : Held) (ws : List Message) (capacity : 
       step = step;
       by = is;
       from = refl;
+      set = chosen line.plan h i c;
+      law = (law line.plan h i c (Some step) (sym is)).goes step refl;
       forces = refl;
       decision = refl;
       answer = refl;

@@ -11,7 +11,7 @@ use Rattle.desk.specs.Wording.{said_text}
 use Rattle.desk.specs.declared.said.Said.{Said}
 use Rattle.desk.proofs.Telling.{tells}
 use Rattle.rehearse.specs.Rehearsed.{refused_as_fault, reply_to, replies, answers, at_start, rehearsed}
-use Rattle.rehearse.specs.Session.{Session, over, unread, form_read, printed, Rehearsal}
+use Rattle.rehearse.specs.Session.{Session, over, not_read, form_read, printed, Rehearsal}
 
 module _ (places : ℕ) where
   -- a session that prints these answers
@@ -26,7 +26,7 @@ module _ (places : ℕ) where
       record {
         replied = Err e ∷ more.replied;
         shows = ap (λ (t : List ℕ). told said_text (reply_to places d (Err e)).said ++ (10 ∷ t)) more.shows;
-        session = unread e is more.session;
+        session = not_read e is more.session;
       }
   line_replied d es n line ls (Ok f) stands is rest =
       let done = acts places d f in

@@ -16,7 +16,7 @@ module _ (places : ℕ) where
   pub data Session : AtDesk → List Event → ℕ → List (List ℕ) → List (Result Said ScriptFault) → Type 0 where
     over : {d : AtDesk} {es : List Event} {n : ℕ} → Session d es n [] []
     -- a line that does not read gets its fault: nothing is told, and nothing changes
-    unread : {d : AtDesk} {es : List Event} {n : ℕ} {line : List ℕ} {ls : List (List ℕ)} {rs : List (Result Said ScriptFault)} (e : ScriptFault) → checked n line ≡ Err e → Session d es (n + 1) ls rs → Session d es n (line ∷ ls) (Err e ∷ rs)
+    not_read : {d : AtDesk} {es : List Event} {n : ℕ} {line : List ℕ} {ls : List (List ℕ)} {rs : List (Result Said ScriptFault)} (e : ScriptFault) → checked n line ≡ Err e → Session d es (n + 1) ls rs → Session d es n (line ∷ ls) (Err e ∷ rs)
     -- The form of a line is acted on. What was told so far led to the desk as it then stands, and so the
     -- promises hold.
     form_read : {d after : AtDesk} {es new : List Event} {n : ℕ} {line : List ℕ} {ls : List (List ℕ)} {r : Result Said Refusal} {rs : List (Result Said ScriptFault)} (f : Form) → checked n line ≡ Ok f → ActedOn places d f r after new → Stands places after (new ++ es) → Session after (new ++ es) (n + 1) ls rs → Session d es n (line ∷ ls) (refused_as_fault r ∷ rs)
