@@ -27,7 +27,7 @@ refused() {
         failed=1
     fi
 }
-refused marks_line 'error[unknown-method]: the method `mark_faulty` takes `self` as `&mut Marked<Drafted>`, and is called on `Marked<Opened>`'
+refused marks_line 'error[unknown-method]: the method `mark_faulty` takes `self` as `&mut Marked<Drafted>`, and is called on `Marked<InUse>`'
 refused keeps_slip 'error[linear-value-let-go]: `slip` is let go'
 refused writes_marks 'error[private-field]: field `marks` of struct `Marked` is private'
 refused makes_slip 'error[private-field]: field `process` of struct `ReleaseSlip` is private'

@@ -2,7 +2,7 @@
 use Rattle.std.proofs.Common.{◌≡◌, ℕ, Bool, true, false, cond, eqb, ◌⊎◌, is_some as option_is_some, Some, None, Option, sym, refl, ap, inl, inr, ⊎_elim}
 use Rattle.std.proofs.lemmas.Bool.{both_ways, eqb-true, eq-eqb}
 use Rattle.protocol.specs.Heard.{has}
-use Rattle.agreement.specs.Records.{when, hear}
+use Rattle.agreement.specs.Records.{when, heard_after}
 
 pub none_some : (o : Option ℕ) (b : ℕ) → o ≡ None → o ≡ Some b → ⊥
 none_some o b p q = cc
@@ -60,14 +60,14 @@ in_turn p q later earlier b test kept e =
     ⊎_elim (λ x. when_keeps q earlier b (kept (is_some later v.0 x))) (λ x. when_some q earlier b (test x.0)) (when_from p later b v.0 v.1)
 
 module _ (f : ℕ → Option ℕ) (k b : ℕ) where
-  pub hear_keeps : (j : ℕ) → option_is_some (f j) ≡ true → option_is_some (hear f k b j) ≡ true
-  unfolding hear
+  pub hear_keeps : (j : ℕ) → option_is_some (f j) ≡ true → option_is_some (heard_after f k b j) ≡ true
+  unfolding heard_after
   hear_keeps j h = when_keeps (eqb j k) (f j) b h
 
-  pub hear_here : option_is_some (hear f k b k) ≡ true
-  unfolding hear
+  pub hear_here : option_is_some (heard_after f k b k) ≡ true
+  unfolding heard_after
   hear_here = when_some (eqb k k) (f k) b (eq-eqb k k refl)
 
-  pub hear_from : (j c : ℕ) → hear f k b j ≡ Some c → (f j ≡ Some c) ⊎ ((k ≡ j) × (b ≡ c))
-  unfolding hear
+  pub hear_from : (j c : ℕ) → heard_after f k b j ≡ Some c → (f j ≡ Some c) ⊎ ((k ≡ j) × (b ≡ c))
+  unfolding heard_after
   hear_from j c e = ⊎_elim inl (λ h. inr (sym (eqb-true j k h.0), h.1)) (when_from (eqb j k) (f j) b c e)

@@ -7,10 +7,10 @@ use Rattle.protocol.specs.declared.messages.Subject.TheVariants.{Item}
 use Rattle.protocol.specs.Counting.{below}
 use Rattle.protocol.specs.Messages.{message}
 use Rattle.protocol.proofs.Bags.{count_none}
-use Rattle.agreement.specs.Worlds.{Correct}
-use Rattle.agreement.specs.Records.{hear, support, handle}
+use Rattle.agreement.specs.Worlds.{CorrectIn}
+use Rattle.agreement.specs.Records.{heard_after, support, handle}
 use Rattle.protocol.specs.Sending.{to_all}
-use Rattle.agreement.specs.Runs.{State, start, told, received, tell, deliver, Run, begun, after, spread}
+use Rattle.agreement.specs.Runs.{State, start, after_telling, after_receiving, tells, delivers, Reachable, initially, by_transition, spread}
 use Rattle.agreement.specs.Broadcasts.{alone, BroadcastHappens}
 use Rattle.agreement.proofs.Counts.{counted_lawful}
 
@@ -19,30 +19,30 @@ abbrev letter : Step → Message
 letter step = message 0 0 step (Item 0 0) 5
 
 abbrev first_state : State
-first_state = told (Item 0 0) 5 (letter Initial ∷ []) start
+first_state = after_telling (Item 0 0) 5 (letter Initial ∷ []) start
 
 abbrev second : State
-second = received alone (letter Initial) (letter Echo ∷ []) first_state
+second = after_receiving alone (letter Initial) (letter Echo ∷ []) first_state
 
 abbrev third : State
-third = received alone (letter Echo) (letter Ready ∷ []) second
+third = after_receiving alone (letter Echo) (letter Ready ∷ []) second
 
 abbrev pub last : State
-last = received alone (letter Ready) [] third
+last = after_receiving alone (letter Ready) [] third
 
-correct : Correct alone 0
+correct : CorrectIn alone 0
 correct = (omega arith, refl)
 
-run : Run alone last
-unfolding to_all spread handle hear support below message
+run : Reachable alone last
+unfolding to_all spread handle heard_after support below message
 run =
-    after (after (after (after begun (tell (Item 0 0) 5 (letter Initial ∷ []) correct refl (λ p. refl)))
-    (deliver (letter Initial) [] (letter Echo ∷ []) correct (λ p. refl) (λ p. refl)))
-    (deliver (letter Echo) [] (letter Ready ∷ []) correct (λ p. refl) (λ p. refl)))
-    (deliver (letter Ready) [] [] correct (λ p. refl) (λ p. refl))
+    by_transition (by_transition (by_transition (by_transition initially (tells (Item 0 0) 5 (letter Initial ∷ []) correct refl (λ p. refl)))
+    (delivers (letter Initial) [] (letter Echo ∷ []) correct (λ p. refl) (λ p. refl)))
+    (delivers (letter Echo) [] (letter Ready ∷ []) correct (λ p. refl) (λ p. refl)))
+    (delivers (letter Ready) [] [] correct (λ p. refl) (λ p. refl))
 
 pub happens : BroadcastHappens last
-unfolding handle hear support below message
+unfolding handle heard_after support below message
 happens = record {
   lawful = counted_lawful 1 0 1 1 1 (λ _. false) (omega arith) (omega arith) (record { meet = omega arith; echoes = omega arith; one_correct = omega arith; enough = omega arith; accepts = omega arith });
   run = run;

@@ -4,7 +4,7 @@ use Rattle.std.proofs.lemmas.Bool.{both_ways, eqb-true, leb-true, le-leb, or_lef
 use Rattle.protocol.specs.declared.messages.Step.{Step}
 use Rattle.protocol.specs.declared.messages.Step.TheVariants.{Initial, Echo, Ready}
 use Rattle.agreement.specs.Worlds.{World, Lawful}
-use Rattle.agreement.specs.Records.{Rec, when, hear, support, receive, once_accepted, handle}
+use Rattle.agreement.specs.Records.{Rec, when, heard_after, support, receive, once_accepted, handle}
 use Rattle.agreement.proofs.Bodies.{has_some, some_has, is_some, when_stays, when_keeps, when_some, when_from, in_turn, hear_keeps, hear_here, hear_from}
 
 -- what a record holds of another process's echo or ready
@@ -60,15 +60,15 @@ stands w o M r = record {
 
 module _ (w : World) (law : Lawful w) (f : ℕ → Option ℕ) (k b : ℕ) where
   -- another body gains nothing
-  hear_other : (c : ℕ) → (b ≡ c → ⊥) → support w (hear f k b) c ≤ support w f c
+  hear_other : (c : ℕ) → (b ≡ c → ⊥) → support w (heard_after f k b) c ≤ support w f c
   unfolding support
   hear_other c apart =
-      law.measure.monotone _ _ (λ j l e. some_has (f j) c (⊎_elim (λ x. x) (λ x. absurd (apart x.1)) (hear_from f k b j c (has_some (hear f k b j) c e))))
+      law.measure.monotone _ _ (λ j l e. some_has (f j) c (⊎_elim (λ x. x) (λ x. absurd (apart x.1)) (hear_from f k b j c (has_some (heard_after f k b j) c e))))
 
   -- what is enough now was tested now, or was enough before
-  enough_from : (least c : ℕ) → least ≤ support w (hear f k b) c → (leb least (support w (hear f k b) b) ≡ true) ⊎ (least ≤ support w f c)
+  enough_from : (least c : ℕ) → least ≤ support w (heard_after f k b) c → (leb least (support w (heard_after f k b) b) ≡ true) ⊎ (least ≤ support w f c)
   enough_from least c h =
-      ⊎_elim (λ (e : b ≡ c). inl (le-leb _ _ (subst (λ d. least ≤ support w (hear f k b) d) (sym e) h))) (λ (e : b ≡ c → ⊥). inr (omega (arith, hear_other c e)))
+      ⊎_elim (λ (e : b ≡ c). inl (le-leb _ _ (subst (λ d. least ≤ support w (heard_after f k b) d) (sym e) h))) (λ (e : b ≡ c → ⊥). inr (omega (arith, hear_other c e)))
       (cases_eq b c)
 
 -- a record in which body b is set where a test holds
@@ -129,7 +129,7 @@ never : {A : Type 0} → false ≡ true → A
 never e = absurd (both_ways false refl e)
 
 module _ (w : World) (law : Lawful w) (o : ℕ) (M : Step → ℕ → ℕ → Type 0) (k b : ℕ) (r : Rec) where
-  hears : (f : ℕ → Option ℕ) (step : Step) → M step k b → (j c : ℕ) → hear f k b j ≡ Some c → (f j ≡ Some c) ⊎ M step j c
+  hears : (f : ℕ → Option ℕ) (step : Step) → M step k b → (j c : ℕ) → heard_after f k b j ≡ Some c → (f j ≡ Some c) ⊎ M step j c
   hears f step m j c e = ⊎_elim inl (λ x. inr (subst₂ (λ i d. M step i d) x.0 x.1 m)) (hear_from f k b j c e)
 
   by_message : (step : Step) → M step k b → Moves w o M r (receive w o step k b r)
@@ -150,7 +150,7 @@ module _ (w : World) (law : Lawful w) (o : ℕ) (M : Step → ℕ → ℕ → Ty
       same Initial j c e = inl e
       same Echo j c e = inl e
       same Ready j c e = inl e
-  by_message Echo m = by_causes w o M b r test test false (hear r.echo k b) r.ready (record {
+  by_message Echo m = by_causes w o M b r test test false (heard_after r.echo k b) r.ready (record {
     heard_more = more;
     echo_more = hear_keeps r.echo k b;
     ready_more = λ j e. e;
@@ -164,13 +164,13 @@ module _ (w : World) (law : Lawful w) (o : ℕ) (M : Step → ℕ → ℕ → Ty
   })
     where
       test : Bool
-      test = leb w.echo (support w (hear r.echo k b) b)
+      test = leb w.echo (support w (heard_after r.echo k b) b)
 
       more : (step : Step) (j c : ℕ) → heard (receive w o Echo k b r) step j ≡ Some c → (heard r step j ≡ Some c) ⊎ M step j c
       more Initial j c e = inl e
       more Echo j c e = hears r.echo Echo m j c e
       more Ready j c e = inl e
-  by_message Ready m = by_causes w o M b r (test w.ready) (test w.ready) (test w.accept) r.echo (hear r.ready k b) (record {
+  by_message Ready m = by_causes w o M b r (test w.ready) (test w.ready) (test w.accept) r.echo (heard_after r.ready k b) (record {
     heard_more = more;
     echo_more = λ j e. e;
     ready_more = hear_keeps r.ready k b;
@@ -184,7 +184,7 @@ module _ (w : World) (law : Lawful w) (o : ℕ) (M : Step → ℕ → ℕ → Ty
   })
     where
       test : ℕ → Bool
-      test least = leb least (support w (hear r.ready k b) b)
+      test least = leb least (support w (heard_after r.ready k b) b)
 
       more : (step : Step) (j c : ℕ) → heard (receive w o Ready k b r) step j ≡ Some c → (heard r step j ≡ Some c) ⊎ M step j c
       more Initial j c e = inl e

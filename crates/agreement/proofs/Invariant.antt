@@ -5,7 +5,7 @@ use Rattle.protocol.specs.declared.messages.Step.{Step}
 use Rattle.protocol.specs.declared.messages.Step.TheVariants.{Initial, Echo, Ready}
 use Rattle.protocol.specs.declared.messages.Subject.{Subject}
 use Rattle.protocol.specs.Messages.{originator_of}
-use Rattle.agreement.specs.Worlds.{World, Correct, Lawful}
+use Rattle.agreement.specs.Worlds.{World, CorrectIn, Lawful}
 use Rattle.agreement.specs.Records.{support}
 use Rattle.agreement.specs.Runs.{State}
 use Rattle.agreement.proofs.Bodies.{some_if}
@@ -28,33 +28,33 @@ readies st s k = (st.recs k s).readied
 -- a turn, as one subject sees it
 pub record Seen (w : World) (s : Subject) (st next : State) : Type 0 where
   pub said_stays : (b : ℕ) → st.said s ≡ Some b → next.said s ≡ Some b
-  pub moves : (i : ℕ) → Correct w i → Moves w (originator_of s) (λ step k b. waits st.waiting k i step s b) (st.recs i s) (next.recs i s)
-  pub posted : (k i : ℕ) (step : Step) (b : ℕ) → Correct w k → waits next.waiting k i step s b → waits st.waiting k i step s b ⊎ (says next s k step ≡ Some b)
-  pub sent : (k i : ℕ) (step : Step) (b : ℕ) → Correct w k → Correct w i → says next s k step ≡ Some b → (says st s k step ≡ Some b) ⊎ waits next.waiting k i step s b
-  pub stays : (k i : ℕ) (step : Step) (b : ℕ) → Correct w i → says st s k step ≡ Some b → waits st.waiting k i step s b → waits next.waiting k i step s b ⊎ (settled (next.recs i s) step k ≡ true)
+  pub moves : (i : ℕ) → CorrectIn w i → Moves w (originator_of s) (λ step k b. waits st.waiting k i step s b) (st.recs i s) (next.recs i s)
+  pub posted : (k i : ℕ) (step : Step) (b : ℕ) → CorrectIn w k → waits next.waiting k i step s b → waits st.waiting k i step s b ⊎ (says next s k step ≡ Some b)
+  pub sent : (k i : ℕ) (step : Step) (b : ℕ) → CorrectIn w k → CorrectIn w i → says next s k step ≡ Some b → (says st s k step ≡ Some b) ⊎ waits next.waiting k i step s b
+  pub stays : (k i : ℕ) (step : Step) (b : ℕ) → CorrectIn w i → says st s k step ≡ Some b → waits st.waiting k i step s b → waits next.waiting k i step s b ⊎ (settled (next.recs i s) step k ≡ true)
 
 pub record Inv (w : World) (s : Subject) (st : State) : Type 0 where
   -- What waits or was heard from a correct process is what it sent.
-  pub posted : (k i : ℕ) (step : Step) (b : ℕ) → Correct w k → waits st.waiting k i step s b → says st s k step ≡ Some b
-  pub recorded : (i k : ℕ) (step : Step) (b : ℕ) → Correct w i → Correct w k → heard (st.recs i s) step k ≡ Some b → says st s k step ≡ Some b
+  pub posted : (k i : ℕ) (step : Step) (b : ℕ) → CorrectIn w k → waits st.waiting k i step s b → says st s k step ≡ Some b
+  pub recorded : (i k : ℕ) (step : Step) (b : ℕ) → CorrectIn w i → CorrectIn w k → heard (st.recs i s) step k ≡ Some b → says st s k step ≡ Some b
   -- Behind a ready stands an echo quorum, and behind what is accepted a quorum of readies.
-  pub readied : (i b : ℕ) → Correct w i → (st.recs i s).readied ≡ Some b → w.echo ≤ backing w (echoes st s) b
-  pub accepted : (i b : ℕ) → Correct w i → (st.recs i s).accepted ≡ Some b → w.accept ≤ backing w (readies st s) b
+  pub readied : (i b : ℕ) → CorrectIn w i → (st.recs i s).readied ≡ Some b → w.echo ≤ backing w (echoes st s) b
+  pub accepted : (i b : ℕ) → CorrectIn w i → (st.recs i s).accepted ≡ Some b → w.accept ≤ backing w (readies st s) b
   -- What is echoed of a correct originator is what it told.
-  pub echoed : (i b : ℕ) → Correct w (originator_of s) → Correct w i → (st.recs i s).echoed ≡ Some b → st.said s ≡ Some b
-  pub caught_up : (i : ℕ) → Correct w i → CaughtUp w (st.recs i s)
+  pub echoed : (i b : ℕ) → CorrectIn w (originator_of s) → CorrectIn w i → (st.recs i s).echoed ≡ Some b → st.said s ≡ Some b
+  pub caught_up : (i : ℕ) → CorrectIn w i → CaughtUp w (st.recs i s)
   -- What a correct process sent to another waits, or was heard, or is not needed any more.
-  pub sent : (k i : ℕ) (step : Step) (b : ℕ) → Correct w k → Correct w i → says st s k step ≡ Some b → waits st.waiting k i step s b ⊎ (settled (st.recs i s) step k ≡ true)
+  pub sent : (k i : ℕ) (step : Step) (b : ℕ) → CorrectIn w k → CorrectIn w i → says st s k step ≡ Some b → waits st.waiting k i step s b ⊎ (settled (st.recs i s) step k ≡ true)
 
 module _ (w : World) (law : Lawful w) (s : Subject) (st : State) (inv : Inv w s st) where
   -- a body with an echo quorum behind it was told by a correct originator
-  pub quorum_told : (b : ℕ) → Correct w (originator_of s) → w.echo ≤ backing w (echoes st s) b → st.said s ≡ Some b
+  pub quorum_told : (b : ℕ) → CorrectIn w (originator_of s) → w.echo ≤ backing w (echoes st s) b → st.said s ≡ Some b
   quorum_told b co h =
       let k = backer w law (echoes st s) b (omega (arith, quorum_heavy w law)) in
       inv.echoed k.0 b co k.1 k.2
 
   module _ (next : State) (seen : Seen w s st next) where
-    grows : (k : ℕ) (step : Step) (b : ℕ) → Correct w k → says st s k step ≡ Some b → says next s k step ≡ Some b
+    grows : (k : ℕ) (step : Step) (b : ℕ) → CorrectIn w k → says st s k step ≡ Some b → says next s k step ≡ Some b
     grows k Initial b c e =
         let t = some_if (eqb k (originator_of s)) (st.said s) b e in
         cond-true (eqb k (originator_of s)) (next.said s) None t.0 ∙ seen.said_stays b t.1
@@ -62,10 +62,10 @@ module _ (w : World) (law : Lawful w) (s : Subject) (st : State) (inv : Inv w s 
     grows k Ready b c e = (seen.moves k c).readied_stays b e
 
     -- what a correct process is heard with now it had sent before
-    voted : (i k : ℕ) (step : Step) (b : ℕ) → Correct w i → Correct w k → heard (next.recs i s) step k ≡ Some b → says st s k step ≡ Some b
+    voted : (i k : ℕ) (step : Step) (b : ℕ) → CorrectIn w i → CorrectIn w k → heard (next.recs i s) step k ≡ Some b → says st s k step ≡ Some b
     voted i k step b ci ck e = ⊎_elim (inv.recorded i k step b ci ck) (inv.posted k i step b ck) ((seen.moves i ci).heard_from step k b e)
 
-    quorum_backed : (i b : ℕ) → Correct w i → Quorum w (next.recs i s) b → w.echo ≤ backing w (echoes st s) b
+    quorum_backed : (i b : ℕ) → CorrectIn w i → Quorum w (next.recs i s) b → w.echo ≤ backing w (echoes st s) b
     quorum_backed i b ci =
         ⊎_elim (λ (e : w.echo ≤ support w (next.recs i s).echo b). omega (arith, support_backed w law (next.recs i s).echo (echoes st s) b (λ k ck. voted i k Echo b ci ck))) (λ (e : w.ready ≤ support w (next.recs i s).ready b).
         let k = supporter w law (next.recs i s).ready b (omega (arith, law.sound.one_correct)) in

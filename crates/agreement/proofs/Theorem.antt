@@ -7,7 +7,7 @@ use Rattle.protocol.specs.declared.messages.Subject.{Subject}
 use Rattle.protocol.specs.Messages.{originator_of}
 use Rattle.agreement.specs.Worlds.{World, Lawful}
 use Rattle.agreement.specs.Records.{Rec, support, receive, once_accepted, handle}
-use Rattle.agreement.specs.Runs.{State, Turn, tell, forge, drop, deliver, Run, begun, after, start, blank}
+use Rattle.agreement.specs.Runs.{State, Transition, tells, forges, drops, delivers, Reachable, initially, by_transition, start, blank}
 use Rattle.agreement.specs.Broadcasts.{Broadcasts, Lasts}
 use Rattle.agreement.proofs.Bodies.{none_some, some_if, when_stays}
 use Rattle.agreement.proofs.Weights.{quorum_heavy}
@@ -48,11 +48,11 @@ module _ (w : World) (law : Lawful w) where
     sent = λ k i step b ck ci e. absurd (silent s k step b e);
   }
 
-  pub always : (st : State) → Run w st → (s : Subject) → Inv w s st
-  always st begun s = at_start s
-  always next (after {st} run turn) s = kept w law s st (always st run s) next (seen w law st next turn s)
+  pub always : (st : State) → Reachable w st → (s : Subject) → Inv w s st
+  always st initially s = at_start s
+  always next (by_transition {st} run turn) s = kept w law s st (always st run s) next (seen w law st next turn s)
 
-  pub broadcasts : (st : State) → Run w st → Broadcasts w st
+  pub broadcasts : (st : State) → Reachable w st → Broadcasts w st
   broadcasts st run = record {
     agreement = λ s. accept_alike w law s st (always st run s);
     validity = λ s. accept_told w law s st (always st run s);
@@ -68,11 +68,11 @@ handle_accepted w o step k b r c e = go r.accepted refl
     go None n = absurd (none_some r.accepted c n e)
     go (Some d) n = e
 
-pub lasts : (w : World) (st next : State) → Turn w st next → Lasts st next
-lasts w st next (tell s b left co fresh same) = record { said = λ u c e. when_stays _ (st.said u) b c e; accepted = λ u i c e. e }
-lasts w st next (forge m left l bad same) = record { said = λ u c e. e; accepted = λ u i c e. e }
-lasts w st next (drop m left l bad same) = record { said = λ u c e. e; accepted = λ u i c e. e }
-lasts w st next (deliver m rest left ci taken same) = record {
+pub lasts : (w : World) (st next : State) → Transition w st next → Lasts st next
+lasts w st next (tells s b left co fresh same) = record { said = λ u c e. when_stays _ (st.said u) b c e; accepted = λ u i c e. e }
+lasts w st next (forges m left l bad same) = record { said = λ u c e. e; accepted = λ u i c e. e }
+lasts w st next (drops m left l bad same) = record { said = λ u c e. e; accepted = λ u i c e. e }
+lasts w st next (delivers m rest left ci taken same) = record {
   said = λ u c e. e;
   accepted = λ u i c e. cond_both _ _ (st.recs i u) (λ (r : Rec). r.accepted ≡ Some c) (λ _. handle_accepted w (originator_of u) m.step m.sender m.body (st.recs i u) c e) (λ _. e);
 }

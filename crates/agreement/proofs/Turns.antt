@@ -8,10 +8,10 @@ use Rattle.protocol.specs.declared.messages.Subject.{Subject}
 use Rattle.protocol.specs.Bags.{Same}
 use Rattle.protocol.specs.Messages.{originator_of}
 use Rattle.protocol.proofs.Bags.{same_sym}
-use Rattle.agreement.specs.Worlds.{World, Correct, Lawful}
+use Rattle.agreement.specs.Worlds.{World, CorrectIn, Lawful}
 use Rattle.agreement.specs.Records.{Rec, when, handle}
 use Rattle.protocol.specs.Sending.{to_all}
-use Rattle.agreement.specs.Runs.{State, Turn, tell, forge, drop, deliver, same_subject, spread, delivered, answers, told, leaving, received}
+use Rattle.agreement.specs.Runs.{State, Transition, tells, forges, drops, delivers, same_subject, spread, records_after, responses, after_telling, leaving, after_receiving}
 use Rattle.agreement.proofs.Bodies.{some_if, when_stays, when_set, when_from}
 use Rattle.agreement.proofs.Handler.{Moves, stands, handle_moves, handle_settles, due, settled}
 use Rattle.agreement.proofs.Waiting.{waits, waits_same, waits_here, waits_there, waits_cons, waits_left, waits_right, waits_append, to_all_waits, to_all_told, Told, told_gives, Is, spread_told, spread_waits, same_subject_true, subject_same}
@@ -20,7 +20,7 @@ use Rattle.agreement.proofs.Invariant.{Seen, says}
 module _ (w : World) (law : Lawful w) (st : State) where
   -- a turn that changes only what waits: nothing new of correct processes, and all that waits for
   -- them stays
-  plain : (u : Subject) (left : List Message) → ((k i : ℕ) (step : Step) (b : ℕ) → Correct w k → waits left k i step u b → waits st.waiting k i step u b) → ((k i : ℕ) (step : Step) (b : ℕ) → Correct w i → waits st.waiting k i step u b → waits left k i step u b) → Seen w u st (leaving left st)
+  plain : (u : Subject) (left : List Message) → ((k i : ℕ) (step : Step) (b : ℕ) → CorrectIn w k → waits left k i step u b → waits st.waiting k i step u b) → ((k i : ℕ) (step : Step) (b : ℕ) → CorrectIn w i → waits st.waiting k i step u b → waits left k i step u b) → Seen w u st (leaving left st)
   plain u left old kept = record {
     said_stays = λ b e. e;
     moves = λ i c. stands w (originator_of u) _ (st.recs i u);
@@ -29,7 +29,7 @@ module _ (w : World) (law : Lawful w) (st : State) where
     stays = λ k i step b c e h. inl (kept k i step b c h);
   }
     where
-      sent_before : (k i : ℕ) (step : Step) (b : ℕ) → Correct w k → Correct w i → says (leaving left st) u k step ≡ Some b → (says st u k step ≡ Some b) ⊎ waits left k i step u b
+      sent_before : (k i : ℕ) (step : Step) (b : ℕ) → CorrectIn w k → CorrectIn w i → says (leaving left st) u k step ≡ Some b → (says st u k step ≡ Some b) ⊎ waits left k i step u b
       sent_before k i Initial b ck ci e = inl e
       sent_before k i Echo b ck ci e = inl e
       sent_before k i Ready b ck ci e = inl e
@@ -37,28 +37,28 @@ module _ (w : World) (law : Lawful w) (st : State) where
   by_forge : (u : Subject) (m : Message) (left : List Message) → w.faulty m.sender ≡ true → Same left (m ∷ st.waiting) → Seen w u st (leaving left st)
   by_forge u m left bad same = plain u left old kept
     where
-      old : (k i : ℕ) (step : Step) (b : ℕ) → Correct w k → waits left k i step u b → waits st.waiting k i step u b
+      old : (k i : ℕ) (step : Step) (b : ℕ) → CorrectIn w k → waits left k i step u b → waits st.waiting k i step u b
       old k i step b ck h =
           ⊎_elim (λ x. absurd (both_ways _ ck.1 (ap w.faulty (sym x.from) ∙ bad))) (λ x. x)
           (waits_cons k i step u b m st.waiting (waits_same k i step u b left _ same h))
 
-      kept : (k i : ℕ) (step : Step) (b : ℕ) → Correct w i → waits st.waiting k i step u b → waits left k i step u b
+      kept : (k i : ℕ) (step : Step) (b : ℕ) → CorrectIn w i → waits st.waiting k i step u b → waits left k i step u b
       kept k i step b ci h = waits_same k i step u b _ left (same_sym left _ same) (waits_there k i step u b m st.waiting h)
 
   by_drop : (u : Subject) (m : Message) (left : List Message) → w.faulty m.addressee ≡ true → Same st.waiting (m ∷ left) → Seen w u st (leaving left st)
   by_drop u m left bad same = plain u left old kept
     where
-      old : (k i : ℕ) (step : Step) (b : ℕ) → Correct w k → waits left k i step u b → waits st.waiting k i step u b
+      old : (k i : ℕ) (step : Step) (b : ℕ) → CorrectIn w k → waits left k i step u b → waits st.waiting k i step u b
       old k i step b ck h = waits_same k i step u b _ st.waiting (same_sym st.waiting _ same) (waits_there k i step u b m left h)
 
-      kept : (k i : ℕ) (step : Step) (b : ℕ) → Correct w i → waits st.waiting k i step u b → waits left k i step u b
+      kept : (k i : ℕ) (step : Step) (b : ℕ) → CorrectIn w i → waits st.waiting k i step u b → waits left k i step u b
       kept k i step b ci h =
           ⊎_elim (λ x. absurd (both_ways _ ci.1 (ap w.faulty (sym x.to) ∙ bad))) (λ x. x)
           (waits_cons k i step u b m left (waits_same k i step u b st.waiting _ same h))
 
-  module _ (s : Subject) (b : ℕ) (left : List Message) (co : Correct w (originator_of s)) (fresh : st.said s ≡ None) (same : Same left (to_all w.n (originator_of s) Initial s b ++ st.waiting)) where
+  module _ (s : Subject) (b : ℕ) (left : List Message) (co : CorrectIn w (originator_of s)) (fresh : st.said s ≡ None) (same : Same left (to_all w.n (originator_of s) Initial s b ++ st.waiting)) where
     abbrev next : State
-    next = told s b left st
+    next = after_telling s b left st
 
     named : originator_of s < 16
     named = omega (arith, law.named, co.0)
@@ -67,7 +67,7 @@ module _ (w : World) (law : Lawful w) (st : State) where
     says_now = cond-true _ _ None (eq-eqb (originator_of s) (originator_of s) refl) ∙ when_set (same_subject s s) (st.said s) b (subject_same s) fresh
 
     -- it waits for every process
-    waits_now : (i : ℕ) → Correct w i → waits left (originator_of s) i Initial s b
+    waits_now : (i : ℕ) → CorrectIn w i → waits left (originator_of s) i Initial s b
     waits_now i ci =
         waits_same (originator_of s) i Initial s b _ left (same_sym left _ same)
         (waits_left (originator_of s) i Initial s b _ _ (to_all_waits w.n (originator_of s) i Initial s b law.named named ci.0))
@@ -83,7 +83,7 @@ module _ (w : World) (law : Lawful w) (st : State) where
       stays = λ k i step c ci e h. inl (waits_same k i step u c _ left (same_sym left _ same) (waits_right k i step u c _ _ h));
     }
       where
-        sent_now : (k i : ℕ) (step : Step) (c : ℕ) → Correct w k → Correct w i → says next u k step ≡ Some c → (says st u k step ≡ Some c) ⊎ waits left k i step u c
+        sent_now : (k i : ℕ) (step : Step) (c : ℕ) → CorrectIn w k → CorrectIn w i → says next u k step ≡ Some c → (says st u k step ≡ Some c) ⊎ waits left k i step u c
         sent_now k i Initial c ck ci e =
             let t = some_if (eqb k (originator_of u)) (when (same_subject u s) (st.said u) b) c e in
             ⊎_elim (λ x. inl (cond-true _ _ None t.0 ∙ x)) (λ x.
@@ -103,7 +103,7 @@ module _ (w : World) (law : Lawful w) (st : State) where
     made j u = handle w (originator_of u) m.step m.sender m.body (st.recs j u)
 
     abbrev there : State
-    there = received w m left st
+    there = after_receiving w m left st
 
     is_here : (k i : ℕ) (step : Step) (u : Subject) (b : ℕ) → Is m k i step u b → here i u ≡ true
     is_here k i step u b is = and_from _ _ (eq-eqb _ _ (sym is.to)) (subst (λ v. same_subject u v ≡ true) (sym is.of) (subject_same u))
@@ -112,24 +112,24 @@ module _ (w : World) (law : Lawful w) (st : State) where
     at_here : (j : ℕ) (u : Subject) → here j u ≡ true → (m.addressee ≡ j) × (m.subject ≡ u)
     at_here j u e = let p = and_parts _ _ e in (sym (eqb-true _ _ p.0), sym (same_subject_true u m.subject p.1))
 
-    moved : (u : Subject) (j : ℕ) → Moves w (originator_of u) (λ step k b. waits st.waiting k j step u b) (st.recs j u) (delivered w m st.recs j u)
+    moved : (u : Subject) (j : ℕ) → Moves w (originator_of u) (λ step k b. waits st.waiting k j step u b) (st.recs j u) (records_after w m st.recs j u)
     moved u j =
         cond_both (here j u) (made j u) (st.recs j u) (λ r. Moves w (originator_of u) (λ step k b. waits st.waiting k j step u b) (st.recs j u) r) (λ e.
         let p = at_here j u e in
         handle_moves w law (originator_of u) _ m.sender m.body (st.recs j u) m.step (waits_same _ j _ u _ _ st.waiting (same_sym st.waiting _ taken) (waits_here _ j _ u _ m rest (record { from = refl; to = p.0; at = refl; of = p.1; holds = refl }))))
         (λ e. stands w (originator_of u) _ (st.recs j u))
 
-    module _ (same : Same left (answers w m st ++ rest)) where
+    module _ (same : Same left (responses w m st ++ rest)) where
       -- what the change of an echo or a ready spreads is what is now sent
       posted_now : (step₀ : Step) (before : Option ℕ) (k i : ℕ) (step : Step) (u : Subject) (c : ℕ) → waits (spread w.n m.addressee step₀ m.subject before (says there m.subject m.addressee step₀)) k i step u c → says there u k step ≡ Some c
       posted_now step₀ before k i step u c h =
           let t = spread_told w.n m.addressee k i step₀ step m.subject u c before (says there m.subject m.addressee step₀) m.addressed h in
           told_gives m.addressee k step₀ step m.subject u t.0 c (λ j p v d. says there v j p ≡ Some d) t.2 t.1
 
-      waits_sends : (k i : ℕ) (step : Step) (u : Subject) (c : ℕ) → waits (answers w m st) k i step u c → waits left k i step u c
+      waits_sends : (k i : ℕ) (step : Step) (u : Subject) (c : ℕ) → waits (responses w m st) k i step u c → waits left k i step u c
       waits_sends k i step u c h = waits_same k i step u c _ left (same_sym left _ same) (waits_left k i step u c _ rest h)
 
-      sent_here : (i : ℕ) (step : Step) (c : ℕ) → Correct w i → says there m.subject m.addressee step ≡ Some c → (says st m.subject m.addressee step ≡ Some c) ⊎ waits left m.addressee i step m.subject c
+      sent_here : (i : ℕ) (step : Step) (c : ℕ) → CorrectIn w i → says there m.subject m.addressee step ≡ Some c → (says st m.subject m.addressee step ≡ Some c) ⊎ waits left m.addressee i step m.subject c
       sent_here i Initial c cj e = inl e
       sent_here i Echo c cj e =
           ⊎_elim inl (λ x. inr (waits_sends _ i Echo _ c (waits_left _ i Echo _ c _ _ x)))
@@ -173,8 +173,8 @@ module _ (w : World) (law : Lawful w) (st : State) where
               (subst₂ (λ p j. due (originator_of u) p j ≡ true) (sym is.at) (sym is.from) (says_due u k step c e))))
 
 -- every turn is seen by every subject
-pub seen : (w : World) (law : Lawful w) (st next : State) → Turn w st next → (u : Subject) → Seen w u st next
-seen w law st after (tell s b left co fresh same) u = by_tell w law st s b left co fresh same u
-seen w law st after (forge m left lt bad same) u = by_forge w law st u m left bad same
-seen w law st after (drop m left lt bad same) u = by_drop w law st u m left bad same
-seen w law st after (deliver m rest left ci taken same) u = by_deliver w law st m rest left taken same u
+pub seen : (w : World) (law : Lawful w) (st next : State) → Transition w st next → (u : Subject) → Seen w u st next
+seen w law st after (tells s b left co fresh same) u = by_tell w law st s b left co fresh same u
+seen w law st after (forges m left lt bad same) u = by_forge w law st u m left bad same
+seen w law st after (drops m left lt bad same) u = by_drop w law st u m left bad same
+seen w law st after (delivers m rest left ci taken same) u = by_deliver w law st m rest left taken same u

@@ -27,8 +27,8 @@ abbrev pub when : Bool → Option ℕ → ℕ → Option ℕ
 when q o b = cond q (first o b) o
 
 -- what was heard, after body b from process k: the first of each process stands
-unfoldable pub hear : (ℕ → Option ℕ) → ℕ → ℕ → ℕ → Option ℕ
-hear f k b j = when (j == k) (f j) b
+unfoldable pub heard_after : (ℕ → Option ℕ) → ℕ → ℕ → ℕ → Option ℕ
+heard_after f k b j = when (j == k) (f j) b
 
 -- how much the processes weigh that f has with body b
 unfoldable pub support : World → (ℕ → Option ℕ) → ℕ → ℕ
@@ -48,7 +48,7 @@ receive w o Initial k b r =
       ready = r.ready;
     }
 receive w o Echo k b r =
-    let heard = hear r.echo k b in
+    let heard = heard_after r.echo k b in
     let enough = nat_le w.echo (support w heard b) in
     record {
       echoed = when enough r.echoed b;
@@ -58,7 +58,7 @@ receive w o Echo k b r =
       ready = r.ready;
     }
 receive w o Ready k b r =
-    let heard = hear r.ready k b in
+    let heard = heard_after r.ready k b in
     let enough = nat_le w.ready (support w heard b) in
     record {
       echoed = when enough r.echoed b;

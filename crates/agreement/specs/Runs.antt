@@ -9,7 +9,7 @@ use Rattle.protocol.specs.declared.messages.Subject.TheVariants.{Item, Ballot}
 use Rattle.protocol.specs.Bags.{Same}
 use Rattle.protocol.specs.Messages.{originator_of}
 use Rattle.protocol.specs.Sending.{to_all}
-use Rattle.agreement.specs.Worlds.{World, Correct}
+use Rattle.agreement.specs.Worlds.{World, CorrectIn}
 use Rattle.agreement.specs.Records.{Rec, when, handle}
 
 -- where the machine stands
@@ -39,44 +39,44 @@ same_subject (Ballot i c r) (Ballot j d q) = i == j && (c == d && r == q)
 unfoldable pub spread : ℕ → ℕ → Step → Subject → Option ℕ → Option ℕ → List Message
 spread n i step s None None = []
 spread n i step s None (Some b) = to_all n i step s b
-spread n i step s (Some c) after = []
+spread n i step s (Some c) by_transition = []
 
 -- what process i sends when its record changes
 abbrev pub sends : ℕ → ℕ → Subject → Rec → Rec → List Message
-sends n i s r after = spread n i Echo s r.echoed after.echoed ++ spread n i Ready s r.readied after.readied
+sends n i s r by_transition = spread n i Echo s r.echoed by_transition.echoed ++ spread n i Ready s r.readied by_transition.readied
 
 -- what message m makes of the record that process j keeps of u
-abbrev pub delivered : World → Message → (ℕ → Subject → Rec) → ℕ → Subject → Rec
-delivered w m recs j u =
+abbrev pub records_after : World → Message → (ℕ → Subject → Rec) → ℕ → Subject → Rec
+records_after w m recs j u =
     cond (j == m.addressee && same_subject u m.subject) (handle w (originator_of u) m.step m.sender m.body (recs j u)) (recs j u)
 
 -- what the addressee of m then sends
-abbrev pub answers : World → Message → State → List Message
-answers w m st =
-    sends w.n m.addressee m.subject (st.recs m.addressee m.subject) (delivered w m st.recs m.addressee m.subject)
+abbrev pub responses : World → Message → State → List Message
+responses w m st =
+    sends w.n m.addressee m.subject (st.recs m.addressee m.subject) (records_after w m st.recs m.addressee m.subject)
 
 -- The states after a turn that leaves the messages ms waiting.
-abbrev pub told : Subject → ℕ → List Message → State → State
-told s b ms st = record { recs = st.recs; said = λ u. when (same_subject u s) (st.said u) b; waiting = ms }
+abbrev pub after_telling : Subject → ℕ → List Message → State → State
+after_telling s b ms st = record { recs = st.recs; said = λ u. when (same_subject u s) (st.said u) b; waiting = ms }
 
 abbrev pub leaving : List Message → State → State
 leaving ms st = record { recs = st.recs; said = st.said; waiting = ms }
 
-abbrev pub received : World → Message → List Message → State → State
-received w m ms st = record { recs = delivered w m st.recs; said = st.said; waiting = ms }
+abbrev pub after_receiving : World → Message → List Message → State → State
+after_receiving w m ms st = record { recs = records_after w m st.recs; said = st.said; waiting = ms }
 
 -- A turn leads from a state to another.
-pub data Turn (w : World) (st : State) : State → Type 0 where
+pub data Transition (w : World) (st : State) : State → Type 0 where
   -- A correct originator tells all processes a body, once for each subject.
-  tell : (s : Subject) (b : ℕ) (ms : List Message) → Correct w (originator_of s) → st.said s ≡ None → Same ms (to_all w.n (originator_of s) Initial s b ++ st.waiting) → Turn w st (told s b ms st)
+  tells : (s : Subject) (b : ℕ) (ms : List Message) → CorrectIn w (originator_of s) → st.said s ≡ None → Same ms (to_all w.n (originator_of s) Initial s b ++ st.waiting) → Transition w st (after_telling s b ms st)
   -- A faulty process sends what it likes.
-  forge : (m : Message) (ms : List Message) → m.sender < w.n → w.faulty m.sender ≡ true → Same ms (m ∷ st.waiting) → Turn w st (leaving ms st)
+  forges : (m : Message) (ms : List Message) → m.sender < w.n → w.faulty m.sender ≡ true → Same ms (m ∷ st.waiting) → Transition w st (leaving ms st)
   -- A message reaches a faulty process.
-  drop : (m : Message) (ms : List Message) → m.addressee < w.n → w.faulty m.addressee ≡ true → Same st.waiting (m ∷ ms) → Turn w st (leaving ms st)
+  drops : (m : Message) (ms : List Message) → m.addressee < w.n → w.faulty m.addressee ≡ true → Same st.waiting (m ∷ ms) → Transition w st (leaving ms st)
   -- A message reaches a correct process.
-  deliver : (m : Message) (rest ms : List Message) → Correct w m.addressee → Same st.waiting (m ∷ rest) → Same ms (answers w m st ++ rest) → Turn w st (received w m ms st)
+  delivers : (m : Message) (rest ms : List Message) → CorrectIn w m.addressee → Same st.waiting (m ∷ rest) → Same ms (responses w m st ++ rest) → Transition w st (after_receiving w m ms st)
 
 -- the states that turns lead to
-pub data Run (w : World) : State → Type 0 where
-  begun : Run w start
-  after : {st next : State} → Run w st → Turn w st next → Run w next
+pub data Reachable (w : World) : State → Type 0 where
+  initially : Reachable w start
+  by_transition : {st next : State} → Reachable w st → Transition w st next → Reachable w next

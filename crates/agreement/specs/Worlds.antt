@@ -19,8 +19,8 @@ pub record World : Type 0 where
   pub accept : ℕ
 
 -- process i is one of the n, and not faulty
-abbrev pub Correct : World → ℕ → Type 0
-Correct w i = CorrectOf w.n w.faulty i
+abbrev pub CorrectIn : World → ℕ → Type 0
+CorrectIn w i = CorrectOf w.n w.faulty i
 
 -- the laws of weighing sets of processes below n
 pub record Measure (n : ℕ) (weight : (ℕ → Bool) → ℕ) : Type 0 where

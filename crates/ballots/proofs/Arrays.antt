@@ -1,4 +1,4 @@
--- Arrays that a closure fills which changes nothing. Assumes nothing.
+-- Arrays that a closure fills which changes nothing.
 use Rattle.std.proofs.Common.{◌≡◌, ℕ, zero, suc, ◌+◌, ◌<◌, ◌≤◌, List, get_or, None, Option, sym, refl, ◌∙◌, subst, ⊎_elim, zero-add, arith}
 use Rattle.std.proofs.lemmas.Bool.{cases_lt}
 use Rattle.std.proofs.lemmas.List.{get_or_past}

@@ -1,4 +1,4 @@
--- Counting the ballots of a row. Assumes nothing.
+-- Counting the ballots of a row.
 use Rattle.std.proofs.Common.{◌≡◌, ℕ, zero, suc, ◌+◌, ◌≤◌, Bool, true, false, cond, ◌&&◌, is_some, Some, None, Option, refl, ap, arith}
 use Rattle.std.proofs.lemmas.Bool.{eqb-true}
 use Rattle.protocol.specs.Counting.{below}

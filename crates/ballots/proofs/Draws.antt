@@ -1,4 +1,4 @@
--- What some of the ballots of a round can allow, by how many there are of each. Assumes nothing.
+-- What some of the ballots of a round can allow, by how many there are of each.
 use Rattle.std.proofs.Common.{◌≡◌, ℕ, ◌+◌, ◌-◌, ◌*◌, ◌/◌, ◌<◌, ◌≤◌, min, Bool, true, ◌&&◌, ltb, leb, sym, refl, ap, ◌∙◌, inl, inr, ⊎_elim, arith}
 use Rattle.std.proofs.lemmas.Bool.Decides.{nat_tests}
 use Rattle.std.proofs.lemmas.Bool.{or_cases, or_right, leb-true, le-leb, cases_lt}
@@ -13,7 +13,7 @@ use Rattle.consensus.specs.Rounds.{Allows}
 use Rattle.consensus.proofs.Sides.{both_sides, keep_ahead, release_ahead}
 use Rattle.ballots.specs.Tallies.{part}
 use Rattle.ballots.proofs.Counts.{total}
-use Rattle.ballots.specs.Votes.{after}
+use Rattle.ballots.specs.Votes.{allowed_after}
 use Rattle.ballots.specs.declared.tallies.ByBallot.{ByBallot}
 
 -- n - t of the ballots that c counts, which allow b
@@ -65,8 +65,8 @@ pub record Taken (a : ByBallot Bool) (b : ℕ) : Type 0 where
   pub allowed : part a is ≡ true
 
 module _ (n t : ℕ) where
-  drawn_first : (c : ByBallot ℕ) (b : Ballot) → part (after n t First c) b ≡ true → Draw n t First c (ballot_number b)
-  unfolding after some_votes
+  drawn_first : (c : ByBallot ℕ) (b : Ballot) → part (allowed_after n t First c) b ≡ true → Draw n t First c (ballot_number b)
+  unfolding allowed_after some_votes
   drawn_first c Keep e =
       let k = min c.keep (n - t) in
       let many : n - t ≤ c.keep + c.release = grind (arith, nat_tests) in
@@ -81,8 +81,8 @@ module _ (n t : ℕ) where
   drawn_first c ProposeRelease e = absurd cc
   drawn_first c Open e = absurd cc
 
-  drawn_second : (c : ByBallot ℕ) (b : Ballot) → part (after n t Second c) b ≡ true → Draw n t Second c (ballot_number b)
-  unfolding after some_votes
+  drawn_second : (c : ByBallot ℕ) (b : Ballot) → part (allowed_after n t Second c) b ≡ true → Draw n t Second c (ballot_number b)
+  unfolding allowed_after some_votes
   drawn_second c Keep e = absurd cc
   drawn_second c Release e = absurd cc
   drawn_second c ProposeKeep e =
@@ -111,8 +111,8 @@ module _ (n t : ℕ) where
       proposals_draw k r o (omega arith) (omega arith) (omega arith) (omega arith) (inr (both_sides (λ u. part (some_proposals k r o) (proposal u) ≤ t) (omega arith) (omega arith), (v, refl)))
 
   -- The side that is forced takes its own proposals first. One lemma for both sides is no shorter: the order of taking differs.
-  drawn_third : (c : ByBallot ℕ) (b : Ballot) → part (after n t Third c) b ≡ true → Draw n t Third c (ballot_number b)
-  unfolding after some_proposals
+  drawn_third : (c : ByBallot ℕ) (b : Ballot) → part (allowed_after n t Third c) b ≡ true → Draw n t Third c (ballot_number b)
+  unfolding allowed_after some_proposals
   drawn_third c Keep e = ⊎_elim forced (λ x. tossed_third c side.Keep (leb-true _ _ x)) (or_cases _ _ e)
     where
       forced : (leb (n - t) (c.propose_keep + c.propose_release + c.«open») && ltb t (min c.propose_keep (n - t))) ≡ true → Draw n t Third c 0
@@ -137,7 +137,7 @@ module _ (n t : ℕ) where
   drawn_third c ProposeRelease e = absurd cc
   drawn_third c Open e = absurd cc
 
-  pub drawn : (q : Kind) (c : ByBallot ℕ) (b : Ballot) → part (after n t q c) b ≡ true → Draw n t q c (ballot_number b)
+  pub drawn : (q : Kind) (c : ByBallot ℕ) (b : Ballot) → part (allowed_after n t q c) b ≡ true → Draw n t q c (ballot_number b)
   drawn First = drawn_first
   drawn Second = drawn_second
   drawn Third = drawn_third
@@ -147,42 +147,42 @@ module _ (n t : ℕ) where
     drawn_from : {q : Kind} (d : Draw n t q c b) → (d.of.keep ≤ c.keep) × (d.of.release ≤ c.release) × (d.of.propose_keep ≤ c.propose_keep) × (d.of.propose_release ≤ c.propose_release) × (d.of.«open» ≤ c.«open») × (total d.of ≡ n - t)
     drawn_from d = (d.within Keep, d.within Release, d.within ProposeKeep, d.within ProposeRelease, d.within Open, d.size)
 
-    taken_first : OfKind First c → Draw n t First c b → Taken (after n t First c) b
-    unfolding after
+    taken_first : OfKind First c → Draw n t First c b → Taken (allowed_after n t First c) b
+    unfolding allowed_after
     taken_first none d = ⊎_elim behind even (cases_lt d.of.keep d.of.release)
       where
-        behind : d.of.keep < d.of.release → Taken (after n t First c) b
+        behind : d.of.keep < d.of.release → Taken (allowed_after n t First c) b
         behind l =
             let w = drawn_from d in
             record { is = Release; number = d.allows ∙ ap (λ v. ballot_number (vote v)) (release_ahead (part d.of) l); allowed = grind (arith, nat_tests) }
 
-        even : d.of.release ≤ d.of.keep → Taken (after n t First c) b
+        even : d.of.release ≤ d.of.keep → Taken (allowed_after n t First c) b
         even l =
             let w = drawn_from d in
             record { is = Keep; number = d.allows ∙ ap (λ v. ballot_number (vote v)) (keep_ahead (part d.of) l); allowed = grind (arith, nat_tests) }
 
-    taken_second : OfKind Second c → Draw n t Second c b → Taken (after n t Second c) b
-    unfolding after
+    taken_second : OfKind Second c → Draw n t Second c b → Taken (allowed_after n t Second c) b
+    unfolding allowed_after
     taken_second none d =
         ⊎_elim (λ a. record { is = proposal a.0; number = a.2; allowed = most a.0 a.1 }) (λ a. record { is = Open; number = a.1; allowed = few a.0 }) d.allows
       where
-        most : (v : Side) → n < 2 * part d.of (vote v) → part (after n t Second c) (proposal v) ≡ true
+        most : (v : Side) → n < 2 * part d.of (vote v) → part (allowed_after n t Second c) (proposal v) ≡ true
         most side.Keep l = let w = drawn_from d in grind (arith, nat_tests)
         most side.Release l = let w = drawn_from d in grind (arith, nat_tests)
 
-        few : ((v : Side) → 2 * part d.of (vote v) ≤ n) → part (after n t Second c) Open ≡ true
+        few : ((v : Side) → 2 * part d.of (vote v) ≤ n) → part (allowed_after n t Second c) Open ≡ true
         few f =
             let w = drawn_from d in
             let k = f side.Keep in
             let r = f side.Release in
             grind (arith, nat_tests)
 
-    taken_third : OfKind Third c → Draw n t Third c b → Taken (after n t Third c) b
-    unfolding after
+    taken_third : OfKind Third c → Draw n t Third c b → Taken (allowed_after n t Third c) b
+    unfolding allowed_after
     taken_third none d =
         ⊎_elim (λ a. record { is = vote a.0; number = a.2; allowed = forced a.0 a.1 }) (λ a. record { is = vote a.1.0; number = a.1.1; allowed = tossed a.1.0 a.0 }) d.allows
       where
-        forced : (v : Side) → t < part d.of (proposal v) → part (after n t Third c) (vote v) ≡ true
+        forced : (v : Side) → t < part d.of (proposal v) → part (allowed_after n t Third c) (vote v) ≡ true
         forced side.Keep l = let w = drawn_from d in grind (arith, nat_tests)
         forced side.Release l = let w = drawn_from d in grind (arith, nat_tests)
 
@@ -193,11 +193,11 @@ module _ (n t : ℕ) where
             let r = f side.Release in
             le-leb _ _ (omega arith)
 
-        tossed : (v : Side) → ((u : Side) → part d.of (proposal u) ≤ t) → part (after n t Third c) (vote v) ≡ true
+        tossed : (v : Side) → ((u : Side) → part d.of (proposal u) ≤ t) → part (allowed_after n t Third c) (vote v) ≡ true
         tossed side.Keep f = or_right _ _ (few f)
         tossed side.Release f = or_right _ _ (few f)
 
-  pub taken : (q : Kind) (c : ByBallot ℕ) (b : ℕ) → OfKind q c → Draw n t q c b → Taken (after n t q c) b
+  pub taken : (q : Kind) (c : ByBallot ℕ) (b : ℕ) → OfKind q c → Draw n t q c b → Taken (allowed_after n t q c) b
   taken First = taken_first
   taken Second = taken_second
   taken Third = taken_third

@@ -1,4 +1,4 @@
--- Rows of the ballots of a memory. Assumes nothing.
+-- Rows of the ballots of a memory.
 use Rattle.std.proofs.Common.{◌≡◌, ℕ, zero, suc, ◌+◌, ◌-◌, ◌*◌, ◌<◌, ◌≤◌, Bool, true, ltb, List, None, Option, sym, ap, ◌∙◌, subst, arith}
 use Rattle.std.proofs.lemmas.Bool.Decides.{nat_tests}
 use Rattle.std.proofs.lemmas.Bool.{cond-true, cond-false, lt-ltb, le-ltb, le-leb, and_from, and_left}
@@ -12,7 +12,7 @@ use Rattle.consensus.specs.Rounds.{BallotMap}
 use Rattle.consensus.specs.Validity.{Valid}
 use Rattle.ballots.specs.Places.{accepted_within, ballots_at, covers, valid_at, ValidRow}
 use Rattle.ballots.specs.Tallies.{ballot_in, Holds, counts}
-use Rattle.ballots.specs.Votes.{after, beginning, sifted, valid_by_counting, Exactly}
+use Rattle.ballots.specs.Votes.{allowed_after, beginning, sifted, valid_by_counting, Exactly}
 use Rattle.ballots.specs.declared.tallies.ByBallot.{ByBallot}
 use Rattle.ballots.proofs.Counts.{counts_past}
 use Rattle.ballots.proofs.Theorem.{exact}
@@ -40,7 +40,7 @@ pub record Covered (plan : Plan) (h : Held) (i c r : ℕ) : Type 0 where
 pub votes_behind : (n t : ℕ) (G : BallotMap) (r k : ℕ) → G k r ≡ None → valid_by_counting n t G r k ≡ None
 unfolding valid_by_counting
 votes_behind n t G zero k e = ap (sifted beginning) e
-votes_behind n t G (suc r) k e = ap (sifted (after n t (kind r) (counts n (valid_by_counting n t G r)))) e
+votes_behind n t G (suc r) k e = ap (sifted (allowed_after n t (kind r) (counts n (valid_by_counting n t G r)))) e
 
 pub holds_is : (g : ℕ → Option Ballot) (row : List (Option Ballot)) → Holds g row → ballot_in row ≡ g
 holds_is g row h = λ i k. h.each k i
@@ -61,14 +61,14 @@ module _ (plan : Plan) (h : Held) (i c : ℕ) where
       (r : ℕ) (before row : List (Option Ballot)) (allowed : ByBallot Bool)
       → 1 ≤ r
       → Holds (valid (r - 1)) before
-      → allowed ≡ after plan.n plan.t (kind (r - 1)) (counts 16 (ballot_in before))
+      → allowed ≡ allowed_after plan.n plan.t (kind (r - 1)) (counts 16 (ballot_in before))
       → Holds (λ k. sifted allowed (ballots_at plan h i c k (r + 1 - 1))) row
       → Holds (valid (r + 1 - 1)) row
   unfolding valid_by_counting
   next_row r before row allowed l x e y = holds_alike _ _ row each y
     where
-      is : allowed ≡ after plan.n plan.t (kind (r - 1)) (counts plan.n (valid (r - 1)))
-      is = e ∙ ap (after plan.n plan.t (kind (r - 1))) (counts_row plan.n (valid (r - 1)) before plan.few (λ k b. votes_behind plan.n plan.t (ballots_at plan h i c) (r - 1) k (none_behind plan h i c k (r - 1) b)) x)
+      is : allowed ≡ allowed_after plan.n plan.t (kind (r - 1)) (counts plan.n (valid (r - 1)))
+      is = e ∙ ap (allowed_after plan.n plan.t (kind (r - 1))) (counts_row plan.n (valid (r - 1)) before plan.few (λ k b. votes_behind plan.n plan.t (ballots_at plan h i c) (r - 1) k (none_behind plan h i c k (r - 1) b)) x)
 
       up : r + 1 - 1 ≡ suc (r - 1)
       up = omega arith

@@ -1,4 +1,4 @@
--- What is left of a body by the test of what is allowed. Assumes nothing.
+-- What is left of a body by the test of what is allowed.
 use Rattle.std.proofs.Common.{◌≡◌, ℕ, Bool, true, false, cond, Some, None, Option, sym, refl, ap, ◌∙◌, arith}
 use Rattle.std.proofs.lemmas.Bool.Decides.{nat_tests}
 use Rattle.std.proofs.lemmas.Bool.{both_ways, cond-true}

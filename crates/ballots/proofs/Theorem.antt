@@ -1,4 +1,4 @@
--- Counting finds the valid ballots. Assumes nothing.
+-- Counting finds the valid ballots.
 use Rattle.std.proofs.Common.{◌≡◌, ℕ, zero, suc, Bool, true, false, Some, sym, refl, ap, ◌∙◌, subst}
 use Rattle.protocol.specs.Counting.{below}
 use Rattle.protocol.specs.Numbers.{ballot_number, vote}
@@ -15,7 +15,7 @@ use Rattle.consensus.specs.Validity.{Valid}
 use Rattle.consensus.proofs.Sides.{kind_after}
 use Rattle.consensus.proofs.Sides as sides
 use Rattle.ballots.specs.Tallies.{is_ballot, counts, part}
-use Rattle.ballots.specs.Votes.{after, beginning, sifted, valid_by_counting, Exactly}
+use Rattle.ballots.specs.Votes.{allowed_after, beginning, sifted, valid_by_counting, Exactly}
 use Rattle.ballots.specs.declared.tallies.ByBallot.{ByBallot}
 use Rattle.ballots.proofs.Draws.{OfKind, drawn, taken}
 use Rattle.ballots.proofs.Sets.{to_draw, from_draw}
@@ -38,12 +38,12 @@ module _ (n t : ℕ) (G : BallotMap) where
   none_counted a r b e = below_zero n _ (λ k l. not_sifted a (G k r) b e)
 
   of_kind : (r : ℕ) → OfKind (kind r) (counts n (valid_by_counting n t G r))
-  unfolding valid_by_counting after
+  unfolding valid_by_counting allowed_after
   of_kind zero = (none_counted beginning zero ProposeKeep refl, none_counted beginning zero ProposeRelease refl, none_counted beginning zero Open refl)
   of_kind (suc r) = subst (λ (q : Kind). OfKind q (counts n (valid_by_counting n t G (suc r)))) (sym (kind_after r)) (go (kind r) refl)
     where
-      none : (q : Kind) (b : Ballot) → kind r ≡ q → part (after n t q (counts n (valid_by_counting n t G r))) b ≡ false → below n (λ k. is_ballot b (valid_by_counting n t G (suc r) k)) ≡ 0
-      none q b e f = none_counted (after n t (kind r) (counts n (valid_by_counting n t G r))) (suc r) b (ap (λ (p : Kind). part (after n t p (counts n (valid_by_counting n t G r))) b) e ∙ f)
+      none : (q : Kind) (b : Ballot) → kind r ≡ q → part (allowed_after n t q (counts n (valid_by_counting n t G r))) b ≡ false → below n (λ k. is_ballot b (valid_by_counting n t G (suc r) k)) ≡ 0
+      none q b e f = none_counted (allowed_after n t (kind r) (counts n (valid_by_counting n t G r))) (suc r) b (ap (λ (p : Kind). part (allowed_after n t p (counts n (valid_by_counting n t G r))) b) e ∙ f)
 
       go : (q : Kind) → kind r ≡ q → OfKind (sides.after q) (counts n (valid_by_counting n t G (suc r)))
       go First e = (none First ProposeKeep e refl, none First ProposeRelease e refl, none First Open e refl)
@@ -58,10 +58,10 @@ module _ (n t : ℕ) (G : BallotMap) where
   }
   exact (suc r) k = record {
     sound = λ b e.
-        let a = after n t (kind r) (counts n (valid_by_counting n t G r)) in
+        let a = allowed_after n t (kind r) (counts n (valid_by_counting n t G r)) in
         let x = sifted_some a (G k (suc r)) b e in
         (x.0, from_draw n t G r (valid_by_counting n t G r) (exact r) (ballot_number b) (drawn n t (kind r) _ b x.1));
     full = λ b v.
         let d = taken n t (kind r) _ b (of_kind r) (to_draw n t G r (valid_by_counting n t G r) (exact r) v.1.0 b v.1.1 v.1.2) in
-        (d.is, d.number, some_sifted (after n t (kind r) (counts n (valid_by_counting n t G r))) (G k (suc r)) d.is (v.0 ∙ ap Some d.number) d.allowed);
+        (d.is, d.number, some_sifted (allowed_after n t (kind r) (counts n (valid_by_counting n t G r))) (G k (suc r)) d.is (v.0 ∙ ap Some d.number) d.allowed);
   }

@@ -1,4 +1,4 @@
--- Rows of ballots, and counting them. Assumes nothing.
+-- Rows of ballots, and counting them.
 use Rattle.std.specs.Prelude.{◌≡◌, ℕ, Bool, false, cond, List, length, Some, None, Option, ◌==◌, slice_index_or}
 use Rattle.protocol.specs.Counting.{below}
 use Rattle.protocol.specs.Numbers.{ballot_number}

@@ -1,4 +1,4 @@
--- Which ballots are valid, by counting. Rounds count from 0 here. Assumes nothing.
+-- Which ballots are valid, by counting. Rounds count from 0 here.
 use Rattle.std.specs.Prelude.{◌≡◌, ℕ, zero, suc, ◌+◌, ◌-◌, ◌*◌, ◌/◌, min, Bool, true, false, cond, ◌&&◌, ◌||◌, Some, None, Option, nat_le, nat_lt}
 use Rattle.protocol.specs.Numbers.{ballot_number, ballot_of}
 use Rattle.protocol.specs.declared.votes.Ballot.{Ballot}
@@ -49,10 +49,10 @@ after_third t m x =
     }
 
 -- what n - t ballots of a round can allow in the round after it
-unfoldable pub after : ℕ → ℕ → Kind → ByBallot ℕ → ByBallot Bool
-after n t First x = after_first (n - t) x
-after n t Second x = after_second n (n - t) x
-after n t Third x = after_third t (n - t) x
+unfoldable pub allowed_after : ℕ → ℕ → Kind → ByBallot ℕ → ByBallot Bool
+allowed_after n t First x = after_first (n - t) x
+allowed_after n t Second x = after_second n (n - t) x
+allowed_after n t Third x = after_third t (n - t) x
 
 -- a case begins with votes
 abbrev pub beginning : ByBallot Bool
@@ -70,7 +70,7 @@ sifted a (Some b) = passed a (ballot_of b)
 -- the valid ballots of a round, by process
 unfoldable pub valid_by_counting : ℕ → ℕ → BallotMap → ℕ → ℕ → Option Ballot
 valid_by_counting n t G zero k = sifted beginning (G k zero)
-valid_by_counting n t G (suc r) k = sifted (after n t (kind r) (counts n (valid_by_counting n t G r))) (G k (suc r))
+valid_by_counting n t G (suc r) k = sifted (allowed_after n t (kind r) (counts n (valid_by_counting n t G r))) (G k (suc r))
 
 -- o is the one ballot whose number V holds of, and it is none if V holds of no number
 pub record Exactly (V : ℕ → Type 0) (o : Option Ballot) : Type 0 where

@@ -1,7 +1,7 @@
 // What sets of m = n - t ballots of a round can allow in the round after it.
 ghost use Rattle.std.specs.Prelude.{◌≡◌};
 ghost use Rattle.protocol.specs.Phases.{kind};
-ghost use Rattle.ballots.specs.Votes.{after_first, after_second, after_third, after, sifted};
+ghost use Rattle.ballots.specs.Votes.{after_first, after_second, after_third, allowed_after, sifted};
 
 use crate::tallies::{Allowed, Tally};
 use plan::Plan;
@@ -23,9 +23,9 @@ pub(crate) const VOTES: Allowed = Allowed {
 };
 
 // By the ballots of a round. Rounds count from 0 here.
-#[tactic(auto, unfolding(crate::specs::Votes::after))]
+#[tactic(auto, unfolding(crate::specs::Votes::allowed_after))]
 pub(crate) fn allowed_after(plan: &Plan, round: u64, tally: Tally) -> Allowed
-    ensures { result ≡ after plan.now.n plan.now.t (kind round) tally }
+    ensures { result ≡ allowed_after plan.now.n plan.now.t (kind round) tally }
 {
     let m = plan.quorum();
     match Kind::of_round(round) {

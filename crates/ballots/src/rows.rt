@@ -29,7 +29,7 @@ pub fn valid_ballots(
     if !is_covered(plan, memory, process, case, round) {
         return [None; PROCESSES as usize];
     }
-    let accepted = Accepted {
+    let accepted = AcceptedBallots {
         plan,
         memory,
         process,
@@ -56,7 +56,7 @@ fn is_covered(plan: &Plan, memory: &Memory, process: u64, case: u64, round: u64)
 
 // What a process has accepted in a case.
 #[derive(Drop)]
-struct Accepted<'a, 'm> {
+struct AcceptedBallots<'a, 'm> {
     plan: &'a Plan,
     memory: &'a Memory<'m>,
     process: u64,
@@ -64,7 +64,7 @@ struct Accepted<'a, 'm> {
     ghost known: { process < plan.now.n },
 }
 
-impl<'a, 'm> Accepted<'a, 'm> {
+impl<'a, 'm> AcceptedBallots<'a, 'm> {
     // The accepted ballots of a round that are allowed in it.
     fn sifted_row(&self, round: u64, allowed: Allowed) -> RoundBallots
         requires { 1 ≤ round }

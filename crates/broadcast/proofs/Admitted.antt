@@ -1,4 +1,4 @@
--- What holds where plan and memory admit a message. Assumes nothing.
+-- What holds where plan and memory admit a message.
 use Rattle.std.proofs.Common.{◌≡◌, ℕ, ◌+◌, ◌-◌, ◌<◌, ◌≤◌, Bool, true, length, Some, sym, ap, ◌∙◌, arith}
 use Rattle.std.proofs.lemmas.Bool.{cond-true}
 use Rattle.std.proofs.lemmas.Bool.Decides.{nat_tests}
@@ -7,14 +7,14 @@ use Rattle.protocol.specs.declared.messages.Message.{Message}
 use Rattle.protocol.specs.declared.messages.Subject.{Subject}
 use Rattle.plan.specs.declared.plans.Plan.{Plan}
 use Rattle.memory.specs.Contents.{Held}
-use Rattle.memory.specs.Places.{enough, within, place, placed, place_of, Laid}
+use Rattle.memory.specs.Places.{enough, within, record_place, record_places, place_of, Laid}
 use Rattle.memory.specs.declared.places.Place.{Place}
 use Rattle.memory.proofs.Sizes.{sizes}
 use Rattle.broadcast.specs.Receiving.{admits, received, handled}
 
 -- what a place that was found says
 record Found (plan : Plan) (process : ℕ) (s : Subject) (p : Place) : Type 0 where
-  at : p ≡ placed plan (place plan process s)
+  at : p ≡ record_places plan (record_place plan process s)
   below : process < plan.n
   inside : within plan s ≡ true
 
@@ -44,7 +44,7 @@ admitted plan process m h p s all from is_enough enough_so subject_is e laid =
     let fits = sym is_enough ∙ enough_so in
     let size = sizes plan h fits in
     let inside = laid.inside process m.subject f.below f.inside in
-    let last = laid.ready_inside (place plan process m.subject) (plan.n - 1) inside (omega (arith, plan.tolerated)) in
+    let last = laid.ready_inside (record_place plan process m.subject) (plan.n - 1) inside (omega (arith, plan.tolerated)) in
     let admits_it : admits plan process m h ≡ true = grind (arith, nat_tests, f.inside) in
     record {
       at = rw f.at (omega (arith, size.broadcasts));

@@ -1,9 +1,9 @@
--- The places of one step of a record, and what is heard and counted in them. Assumes nothing.
+-- The places of one step of a record, and what is heard and counted in them.
 use Rattle.std.proofs.Common.{◌≡◌, ℕ, ◌+◌, ◌<◌, ◌≤◌, List, get_or, length, take, drop, None, Some, Option, count_by, refl, ap, ◌∙◌, arith}
 use Rattle.std.proofs.lemmas.Grind.{common_steps}
 use Rattle.protocol.proofs.Counting.{below_alike}
 use Rattle.memory.proofs.Counting.{count_places}
-use Rattle.broadcast.specs.Hearing.{hear, says, saying}
+use Rattle.broadcast.specs.Hearing.{hear, says, count_saying}
 use borrow.Rule.Slice.PartMut.{put_mid, put_same, set_mid_at}
 
 module _ (first k : ℕ) (xs row : List (Option ℕ)) (fits : first + k ≤ length xs) where
@@ -16,7 +16,7 @@ module _ (first k : ℕ) (xs row : List (Option ℕ)) (fits : first + k ≤ leng
       go (Some a) e f = rw (f, e) (put_same first k xs)
 
   -- counting in the row is counting in the whole
-  pub counted_row : (n b : ℕ) → length row ≡ n → count_by (says b) row ≡ saying n first b (put_mid first k xs row)
+  pub counted_row : (n b : ℕ) → length row ≡ n → count_by (says b) row ≡ count_saying n first b (put_mid first k xs row)
   counted_row n b size = count_places (says b) None row n size ∙ below_alike n _ _ (λ j lt. ap (says b) (at j lt))
     where
       at : (j : ℕ) → j < n → get_or row j None ≡ get_or (put_mid first k xs row) (first + j) None

@@ -1,4 +1,4 @@
--- How hearing and going on make up what a message does. Assumes nothing.
+-- How hearing and going on make up what a message does.
 use Rattle.std.proofs.Common.{◌≡◌, ℕ, List, get_or, slice_set, None, Some, Option, refl, ap, ◌∙◌}
 use Rattle.std.proofs.lemmas.List.{set-get_or}
 use Rattle.protocol.specs.declared.messages.Message.{Message}

@@ -1,4 +1,4 @@
--- Hearing echoes and readies, and counting them. Assumes nothing.
+-- Hearing echoes and readies, and counting them.
 use Rattle.std.specs.Prelude.{ℕ, ◌+◌, Bool, List, Some, None, Option, slice_index_or, slice_set}
 use Rattle.protocol.specs.Counting.{below}
 use Rattle.protocol.specs.Heard.{has}
@@ -22,8 +22,8 @@ abbrev pub says : ℕ → Option ℕ → Bool
 says b o = has o b
 
 -- how many of the n places from the first on hold b
-abbrev pub saying : ℕ → ℕ → ℕ → List (Option ℕ) → ℕ
-saying n first b xs = below n (λ j. says b (slice_index_or xs (first + j) None))
+abbrev pub count_saying : ℕ → ℕ → ℕ → List (Option ℕ) → ℕ
+count_saying n first b xs = below n (λ j. says b (slice_index_or xs (first + j) None))
 
 -- what was heard once m was, by its step: initials are not kept
 abbrev pub listened : Place → Message → Step → List (Option ℕ) → List (Option ℕ)
@@ -34,8 +34,8 @@ listened p m Ready xs = hear (p.readies + m.sender) m.body xs
 -- how many senders were heard with the step and the body of m
 abbrev pub agreeing : ℕ → Place → Message → Step → List (Option ℕ) → ℕ
 agreeing n p m Initial xs = 0
-agreeing n p m Echo xs = saying n p.echoes m.body xs
-agreeing n p m Ready xs = saying n p.readies m.body xs
+agreeing n p m Echo xs = count_saying n p.echoes m.body xs
+agreeing n p m Ready xs = count_saying n p.readies m.body xs
 
 -- a memory with other body places
 abbrev pub with_bodies : List (Option ℕ) → Held → Held

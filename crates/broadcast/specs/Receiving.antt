@@ -1,11 +1,11 @@
--- What a message does at a process, for the subject of the message. Assumes nothing.
+-- What a message does at a process, for the subject of the message.
 use Rattle.std.specs.Prelude.{ℕ, Bool, cond, ◌&&◌, List, Option, nat_lt}
 use Rattle.protocol.specs.declared.messages.Message.{Message}
 use Rattle.plan.specs.Sheet.{thresholds_of}
 use Rattle.plan.specs.declared.plans.Plan.{Plan}
 use Rattle.plan.specs.declared.plans.Thresholds.{Thresholds}
 use Rattle.memory.specs.Contents.{Held, stage_at}
-use Rattle.memory.specs.Places.{enough, within, place, placed}
+use Rattle.memory.specs.Places.{enough, within, record_place, record_places}
 use Rattle.memory.specs.declared.places.Place.{Place}
 use Rattle.memory.specs.declared.records.Stage.{Stage}
 use Rattle.memory.specs.declared.records.Stage.TheVariants.{Silent, Echoed, Readied, Accepted}
@@ -46,4 +46,4 @@ admits plan process m h = nat_lt m.sender plan.n && (enough plan h && (nat_lt pr
 
 -- what a message does at a process; nothing where it is not admitted
 abbrev pub received : Plan → ℕ → Message → Held → Outcome
-received plan process m h = cond (admits plan process m h) (handled plan (placed plan (place plan process m.subject)) m h) (outcome h nothing)
+received plan process m h = cond (admits plan process m h) (handled plan (record_places plan (record_place plan process m.subject)) m h) (outcome h nothing)

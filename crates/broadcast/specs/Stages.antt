@@ -1,4 +1,4 @@
--- What a message does to a stage, and what the process does then. Assumes nothing.
+-- What a message does to a stage, and what the process does then.
 use Rattle.std.specs.Prelude.{ℕ, Bool, true, false, cond, List, Some, None, Option, ◌==◌, nat_le, slice_set}
 use Rattle.protocol.specs.Messages.{originator_of}
 use Rattle.protocol.specs.declared.messages.Message.{Message}

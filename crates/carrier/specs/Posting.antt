@@ -1,4 +1,4 @@
--- What a carrier says of messages that are posted one after another. Assumes nothing.
+-- What a carrier says of messages that are posted one after another.
 use Rattle.std.specs.Prelude.{ℕ, List, [], ◌∷◌, ◌++◌}
 use Rattle.protocol.specs.declared.messages.Message.{Message}
 

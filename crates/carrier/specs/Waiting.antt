@@ -1,4 +1,4 @@
--- What waits in a carrier, and what posting and taking do to it. Assumes nothing.
+-- What waits in a carrier, and what posting and taking do to it.
 use Rattle.std.specs.Prelude.{◌≡◌, ℕ, ◌-◌, ◌<◌, ◌≤◌, min, List, ◌∷◌, length, Ok, Err, Result}
 use Rattle.protocol.specs.declared.messages.Message.{Message}
 use Rattle.protocol.specs.declared.refusals.Refusal.{Refusal}

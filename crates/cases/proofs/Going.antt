@@ -1,4 +1,4 @@
--- How a process goes on, by the rows that the code makes and by the sets of the rule. Assumes nothing.
+-- How a process goes on, by the rows that the code makes and by the sets of the rule.
 use Rattle.std.proofs.Common.{◌≡◌, ℕ, zero, suc, ◌-◌, ◌<◌, ◌≤◌, Bool, true, false, cond, ◌&&◌, ltb, leb, List, count_by, is_some, Some, None, Option, sym, refl, ap, ◌∙◌, subst, ⊎_elim, arith}
 use Rattle.std.proofs.lemmas.Bool.{both_ways, and_parts, and_from, and_right, and_cases, cond-true, cond-false, cases_Bool, cases_lt, le-leb, lt-leb, leb-true, leb-false, ltb-true, lt-ltb}
 use Rattle.std.proofs.lemmas.Option.{cond_some}
@@ -24,7 +24,7 @@ use Rattle.ballots.proofs.Reading.{covered, holds_is, votes_behind, none_behind}
 use Rattle.ballots.proofs.Sets.{amount_alike}
 use Rattle.ballots.proofs.Theorem.{exact}
 use Rattle.cases.specs.Steps.{stands, round_at, voters, may_advance, chosen, chosen_counts, step_by, step_at, Says, OfLowest, GoesBy, FollowsBallots}
-use Rattle.cases.specs.declared.steps.Step.{Step}
+use Rattle.cases.specs.declared.steps.Progress.{Progress}
 use Rattle.cases.proofs.Lowest.{none_chosen}
 use Rattle.cases.proofs.Sides.{says}
 
@@ -103,7 +103,7 @@ module _ (plan : Plan) (h : Held) (i c : ℕ) where
     opened l = omega (arith, (covered plan h i c r (many_covered (many l))).first)
 
     pub goes :
-        (picked : List (Option Ballot)) (x : ByBallot ℕ) (s : Step)
+        (picked : List (Option Ballot)) (x : ByBallot ℕ) (s : Progress)
         → m ≤ count_by is_some row
         → Holds (among (lowest m (stands (ballot_in row))) (ballot_in row)) picked
         → x ≡ counts 16 (ballot_in picked)
@@ -123,7 +123,7 @@ module _ (plan : Plan) (h : Held) (i c : ℕ) where
       go true y = cc
       go false y = absurd cc
 
-  abbrev by : Step
+  abbrev by : Progress
   by = step_by plan.n plan.t (kind (r - 1)) (chosen_counts plan h i c)
 
   may_none : (m : Bool) → cond m (Some by) None ≡ None → m ≡ false
@@ -157,5 +157,5 @@ module _ (plan : Plan) (h : Held) (i c : ℕ) where
     none = λ e. none_full (may_none (may_advance plan h i c) e);
   }
 
-  pub law : (o : Option Step) → o ≡ step_at plan h i c → FollowsBallots plan h i c o
+  pub law : (o : Option Progress) → o ≡ step_at plan h i c → FollowsBallots plan h i c o
   law o e = subst (FollowsBallots plan h i c) (sym e) law_at

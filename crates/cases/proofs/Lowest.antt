@@ -1,4 +1,4 @@
--- Choosing the lowest of a row. Assumes nothing.
+-- Choosing the lowest of a row.
 use Rattle.std.proofs.Common.{◌≡◌, ℕ, Bool, true, false, cond, ◌&&◌, ltb, is_some, Some, None, Option, refl}
 use Rattle.protocol.specs.declared.votes.Ballot.{Ballot}
 

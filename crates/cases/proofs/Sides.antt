@@ -1,4 +1,4 @@
--- What a step says of the counts that it was made by. Assumes nothing.
+-- What progress says of the counts that it was made by.
 use Rattle.std.proofs.Common.{◌≡◌, ℕ, ◌*◌, ◌<◌, ◌≤◌, ◌↔◌, Bool, true, false, cond, ltb, Some, None, Option, sym, refl, ap, subst, inl, inr, arith}
 use Rattle.std.proofs.lemmas.Bool.{ltb-true, ltb-false}
 use Rattle.std.proofs.lemmas.Bool.Decides.{nat_tests}
@@ -15,7 +15,7 @@ use Rattle.consensus.specs.Validity.{Quorum}
 use Rattle.consensus.proofs.Sides.{both_sides}
 use Rattle.consensus.proofs.Steps.{one_side}
 use Rattle.cases.specs.Steps.{side_above, forced_side, proposed, voted, step_by, Says}
-use Rattle.cases.specs.declared.steps.Step.{Step}
+use Rattle.cases.specs.declared.steps.Progress.{Progress}
 
 module _ (count : Ballot → ℕ) where
   module _ (bound : ℕ) where
@@ -105,7 +105,7 @@ module _ (n t : ℕ) (G : BallotMap) (q : ℕ) (S : ℕ → Bool) (full : Quorum
   abbrev count_in : Ballot → ℕ
   count_in = tally n G q S
 
-  abbrev by : Step
+  abbrev by : Progress
   by = step_by n t (kind q) count_in
 
   one_forced : (u v : Side) → t < count_in (proposal u) → t < count_in (proposal v) → u ≡ v

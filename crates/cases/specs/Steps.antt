@@ -14,10 +14,10 @@ use Rattle.memory.specs.Places.{case_place}
 use Rattle.protocol.specs.declared.votes.Kind.{Kind}
 use Rattle.protocol.specs.declared.votes.Kind.TheVariants.{First, Second, Third}
 use Rattle.protocol.specs.Phases.{kind}
-use Rattle.consensus.specs.Rounds.{BallotMap, tally, Forces, Decides, ahead, Allows}
+use Rattle.consensus.specs.Rounds.{BallotMap, tally, Forces, DecidesFor, ahead, Allows}
 use Rattle.consensus.specs.Validity.{Valid, Quorum, lowest}
 use Rattle.ballots.specs.Places.{ballots_at, covers, valid_at}
-use Rattle.cases.specs.declared.steps.Step.{Step}
+use Rattle.cases.specs.declared.steps.Progress.{Progress}
 
 -- the side whose number is above a bound, keep if both are
 abbrev pub over : ℕ → ℕ → ℕ → Option Side
@@ -45,16 +45,16 @@ abbrev pub voted : Option Side → Option Ballot
 voted None = None
 voted (Some v) = Some (vote v)
 
--- a step that says a ballot, and forces and decides nothing
-abbrev pub saying : Ballot → Step
+-- saying a ballot, and forcing and deciding nothing
+abbrev pub saying : Ballot → Progress
 saying b = record { next = Some b; forced = None; decides = None }
 
 -- what follows on a third round: the coin is tossed where no side is forced
-abbrev pub third_step : ℕ → (Ballot → ℕ) → Step
+abbrev pub third_step : ℕ → (Ballot → ℕ) → Progress
 third_step t count = record { next = voted (forced_side t count); forced = forced_side t count; decides = decided_side t count }
 
 -- what follows on a set of a round, by its counts
-unfoldable pub step_by : ℕ → ℕ → Kind → (Ballot → ℕ) → Step
+unfoldable pub step_by : ℕ → ℕ → Kind → (Ballot → ℕ) → Progress
 step_by n t First count = saying (vote (ahead count))
 step_by n t Second count = saying (proposed n count)
 step_by n t Third count = third_step t count
@@ -82,11 +82,11 @@ module _ (plan : Plan) (h : Held) (i c : ℕ) where
   abbrev pub chosen_counts : Ballot → ℕ
   chosen_counts = tally plan.n (ballots_at plan h i c) (round_at - 1) chosen
 
-  abbrev pub step_at : Option Step
+  abbrev pub step_at : Option Progress
   step_at = cond may_advance (Some (step_by plan.n plan.t (kind (round_at - 1)) chosen_counts)) None
 
 -- S is a full set of valid ballots of round q in G, and a process that goes by it goes on by s
-pub record Says (n t : ℕ) (G : BallotMap) (q : ℕ) (S : ℕ → Bool) (s : Step) : Type 0 where
+pub record Says (n t : ℕ) (G : BallotMap) (q : ℕ) (S : ℕ → Bool) (s : Progress) : Type 0 where
   pub quorum : Quorum n t G q S
   -- what is said next is a ballot that S allows
   pub next : (b : Ballot) → s.next ≡ Some b → Allows n t (kind q) (tally n G q S) (ballot_number b)
@@ -97,7 +97,7 @@ pub record Says (n t : ℕ) (G : BallotMap) (q : ℕ) (S : ℕ → Bool) (s : St
   pub forced_next : (v : Side) → s.forced ≡ Some v → s.next ≡ Some (vote v)
   pub unforced : kind q ≡ Third → s.forced ≡ None → ((v : Side) → tally n G q S (proposal v) ≤ t) × (s.next ≡ None)
   -- a side is decided exactly where S decides it in a third round
-  pub decides : (v : Side) → (s.decides ≡ Some v) ↔ ((kind q ≡ Third) × Decides t (tally n G q S) v)
+  pub decides : (v : Side) → (s.decides ≡ Some v) ↔ ((kind q ≡ Third) × DecidesFor t (tally n G q S) v)
   pub undecided : kind q ≡ Third → s.decides ≡ None → (v : Side) → tally n G q S (proposal v) ≤ 2 * t
   -- in other rounds nothing is forced or decided
   pub elsewhere : (kind q ≡ Third → ⊥) → (s.forced ≡ None) × (s.decides ≡ None)
@@ -108,7 +108,7 @@ OfLowest n t G q S = (j k b : ℕ) → S j ≡ true → S k ≡ false → Valid 
 
 -- The rule of an advance: process i leaves its round of case c by the set S, and goes on by what S
 -- says, which is s.
-pub record GoesBy (plan : Plan) (h : Held) (i c : ℕ) (S : ℕ → Bool) (s : Step) : Type 0 where
+pub record GoesBy (plan : Plan) (h : Held) (i c : ℕ) (S : ℕ → Bool) (s : Progress) : Type 0 where
   -- the case is opened and has not ended
   pub opened : 1 ≤ round_at plan h i c
   pub unended : round_at plan h i c ≤ rounds plan
@@ -116,9 +116,9 @@ pub record GoesBy (plan : Plan) (h : Held) (i c : ℕ) (S : ℕ → Bool) (s : S
   pub says : Says plan.n plan.t (ballots_at plan h i c) (round_at plan h i c - 1) S s
 
 -- o is how process i goes on in case c: by the lowest with valid ballots, if there is any full set
-pub record FollowsBallots (plan : Plan) (h : Held) (i c : ℕ) (o : Option Step) : Type 0 where
+pub record FollowsBallots (plan : Plan) (h : Held) (i c : ℕ) (o : Option Progress) : Type 0 where
   pub voting : covers plan h i c (round_at plan h i c) ≡ true → (k b : ℕ) → Valid plan.n plan.t (ballots_at plan h i c) (round_at plan h i c - 1) k b → voters plan h i c k ≡ true
   pub valid : (k : ℕ) → voters plan h i c k ≡ true → (b : ℕ) × Valid plan.n plan.t (ballots_at plan h i c) (round_at plan h i c - 1) k b
-  pub covered : (s : Step) → o ≡ Some s → covers plan h i c (round_at plan h i c) ≡ true
-  pub goes : (s : Step) → o ≡ Some s → GoesBy plan h i c (chosen plan h i c) s
+  pub covered : (s : Progress) → o ≡ Some s → covers plan h i c (round_at plan h i c) ≡ true
+  pub goes : (s : Progress) → o ≡ Some s → GoesBy plan h i c (chosen plan h i c) s
   pub none : o ≡ None → covers plan h i c (round_at plan h i c) ≡ true → (S : ℕ → Bool) → Quorum plan.n plan.t (ballots_at plan h i c) (round_at plan h i c - 1) S → ⊥

@@ -6,7 +6,7 @@ ghost use Rattle.ballots.specs.Tallies.{ballot_in, among, Holds};
 ghost use Rattle.cases.specs.Steps.{stands, step_at, FollowsBallots};
 
 use crate::saying::step_by;
-use crate::steps::Step;
+use crate::steps::Progress;
 use ballots::{RoundBallots, count, valid_ballots};
 use memory::{Memory, case_place};
 use plan::Plan;
@@ -17,7 +17,7 @@ use std::array;
 /// n - t lowest originators that have one. There is nothing if it may not go on: the case is not
 /// opened or has ended, too few ballots are valid, the plan has not the process or the case, or
 /// the memory is too small for the plan.
-pub fn next_step(plan: &Plan, memory: &Memory, process: u64, case: u64) -> Option<Step>
+pub fn next_step(plan: &Plan, memory: &Memory, process: u64, case: u64) -> Option<Progress>
     ensures value { result ≡ step_at plan.now (held memory.now) process case }
     ensures law { FollowsBallots plan.now (held memory.now) process case result }
 {

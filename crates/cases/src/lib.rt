@@ -6,4 +6,4 @@ pub mod saying;
 pub mod steps;
 
 pub use choosing::next_step;
-pub use steps::Step;
+pub use steps::Progress;

@@ -5,14 +5,14 @@ ghost use Rattle.consensus.specs.Rounds.{ahead};
 ghost use Rattle.ballots.specs.Tallies.{part};
 ghost use Rattle.cases.specs.Steps.{proposed, over, saying, third_step, step_by};
 
-use crate::steps::Step;
+use crate::steps::Progress;
 use ballots::Tally;
 use plan::Plan;
 use protocol::{Ballot, Kind, Side};
 
 // By a set of ballots of a round. Rounds count from 0 here.
 #[tactic(auto, unfolding(crate::specs::Steps::step_by))]
-pub(crate) fn step_by(plan: &Plan, round: u64, tally: Tally) -> Step
+pub(crate) fn step_by(plan: &Plan, round: u64, tally: Tally) -> Progress
     ensures { result ≡ step_by plan.now.n plan.now.t (kind round) (part tally) }
 {
     match Kind::of_round(round) {
@@ -22,10 +22,10 @@ pub(crate) fn step_by(plan: &Plan, round: u64, tally: Tally) -> Step
     }
 }
 
-fn saying(ballot: Ballot) -> Step
+fn saying(ballot: Ballot) -> Progress
     ensures { result ≡ saying ballot }
 {
-    Step {
+    Progress {
         next: Some(ballot),
         forced: None,
         decides: None,
@@ -51,13 +51,13 @@ fn proposed(plan: &Plan, tally: Tally) -> Ballot
     side_over(plan.n(), keep, release).map_or(Ballot::Open, Ballot::proposal)
 }
 
-fn third_step(plan: &Plan, tally: Tally) -> Step
+fn third_step(plan: &Plan, tally: Tally) -> Progress
     ensures { result ≡ third_step plan.now.t (part tally) }
 {
     let keep = u64::from(tally.propose_keep);
     let release = u64::from(tally.propose_release);
     let forced = side_over(plan.t(), keep, release);
-    Step {
+    Progress {
         next: forced.map(Ballot::vote),
         forced,
         decides: side_over(2 * plan.t(), keep, release),

@@ -8,7 +8,7 @@ use Rattle.protocol.specs.declared.votes.Side.{Side}
 use Rattle.protocol.specs.Numbers.{ballot_number, vote}
 use Rattle.protocol.specs.declared.votes.Kind.TheVariants.{Third}
 use Rattle.protocol.specs.Phases.{kind}
-use Rattle.consensus.specs.Rounds.{BallotMap, tally, Forces, Decides, Allows}
+use Rattle.consensus.specs.Rounds.{BallotMap, tally, Forces, DecidesFor, Allows}
 use Rattle.protocol.specs.Faults.{CorrectOf}
 use Rattle.consensus.specs.Validity.{Quorum, Justified, Part, Resilient}
 use Rattle.consensus.specs.Decisions.{Tossed}
@@ -30,8 +30,8 @@ pub record Left (n t : ℕ) (A : BallotMap) (coin : Side) (q : ℕ) (next : Opti
   pub forced_some : kind q ≡ Third → (v : Side) → Forces t (tally n A q by) v → (u : Side) × forced u
   -- and so it is with what is decided, in third rounds only
   pub third : (v : Side) → decided v → kind q ≡ Third
-  pub decides : (v : Side) → decided v → Decides t (tally n A q by) v
-  pub decided_some : kind q ≡ Third → (v : Side) → Decides t (tally n A q by) v → (u : Side) × decided u
+  pub decides : (v : Side) → decided v → DecidesFor t (tally n A q by) v
+  pub decided_some : kind q ≡ Third → (v : Side) → DecidesFor t (tally n A q by) v → (u : Side) × decided u
 
 -- Process o has accepted own o, said said o r in round r, and is in the last of rounds o rounds;
 -- coin o r is what it would toss in round r, and forced o r and decided o r are told of it.
@@ -161,6 +161,6 @@ module _ (n t : ℕ) (A B : BallotMap) (part : Part A B) where
         forces = λ v x. subst (λ count. Forces t count v) counts (l.forces v (f_in v x));
         forced_some = λ e v x. let u = l.forced_some e v (subst (λ count. Forces t count v) (sym counts) x) in (u.0, f_out u.0 u.1);
         third = λ v x. l.third v (d_in v x);
-        decides = λ v x. subst (λ count. Decides t count v) counts (l.decides v (d_in v x));
-        decided_some = λ e v x. let u = l.decided_some e v (subst (λ count. Decides t count v) (sym counts) x) in (u.0, d_out u.0 u.1);
+        decides = λ v x. subst (λ count. DecidesFor t count v) counts (l.decides v (d_in v x));
+        decided_some = λ e v x. let u = l.decided_some e v (subst (λ count. DecidesFor t count v) (sym counts) x) in (u.0, d_out u.0 u.1);
       }

@@ -7,7 +7,7 @@ use Rattle.protocol.specs.Counting.{below}
 use Rattle.protocol.specs.Numbers.{ballot_number}
 use Rattle.agreement.proofs.Bodies.{some_once}
 use Rattle.protocol.specs.Phases.{kind}
-use Rattle.consensus.specs.Rounds.{BallotMap, tally, Allows, Decides, ballot_for}
+use Rattle.consensus.specs.Rounds.{BallotMap, tally, Allows, DecidesFor, ballot_for}
 use Rattle.consensus.specs.Validity.{Valid, Quorum}
 use Rattle.consensus.specs.Decisions.{DecisionHappens}
 use Rattle.consensus.proofs.Tallies.{held}
@@ -48,7 +48,7 @@ unfolding tally below
 second_allows Keep = inl (Keep, omega arith, refl)
 second_allows Release = inl (Release, omega arith, refl)
 
-third_decides : (v : Side) → Decides 1 (tally 4 (ballots v) 2 three) v
+third_decides : (v : Side) → DecidesFor 1 (tally 4 (ballots v) 2 three) v
 unfolding tally below
 third_decides Keep = omega arith
 third_decides Release = omega arith

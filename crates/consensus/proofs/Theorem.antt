@@ -7,7 +7,7 @@ use Rattle.protocol.specs.Numbers.{ballot_number, vote, proposal}
 use Rattle.protocol.specs.declared.votes.Kind.{Kind}
 use Rattle.protocol.specs.declared.votes.Kind.TheVariants.{First, Third}
 use Rattle.protocol.specs.Phases.{kind}
-use Rattle.consensus.specs.Rounds.{BallotMap, tally, Forces, Decides, ballot_for}
+use Rattle.consensus.specs.Rounds.{BallotMap, tally, Forces, DecidesFor, ballot_for}
 use Rattle.protocol.specs.Faults.{CorrectOf}
 use Rattle.consensus.specs.Validity.{Valid, Quorum, Part, Resilient}
 use Rattle.consensus.specs.Decisions.{Locked, Settled, Unanimous, Tossed}
@@ -35,7 +35,7 @@ module _ (n t : ℕ) (G : BallotMap) where
         alone = λ e S u full d. agreed_only n t G third v q here S full u (subst (λ (k : Kind). 0 < tally n G q S (ballot_for k u)) (sym e) (omega arith));
       }
 
-  module _ (r : ℕ) (at_third : kind r ≡ Third) (S : ℕ → Bool) (v : Side) (full : Quorum n t G r S) (decides : Decides t (tally n G r S) v) where
+  module _ (r : ℕ) (at_third : kind r ≡ Third) (S : ℕ → Bool) (v : Side) (full : Quorum n t G r S) (decides : DecidesFor t (tally n G r S) v) where
     forced_by : (T : ℕ → Bool) → Quorum n t G r T → Forces t (tally n G r T) v
     forced_by T other_full = omega (arith, tally_met n t G r T other_full S (proposal v))
 
@@ -60,7 +60,7 @@ module _ (n t : ℕ) (G : BallotMap) where
         carries S full =
             first_carries n t (kind r) (tally n G r S) v at_first (omega (arith, law.few, law.third, tally_correct n t G r S full faulty (vote v) all, tally_faulty n t G r S full faulty (vote v) all (vote (other v)) (λ e. not_other v (vote_side (other v) v e))))
 
-    pub valid_decision : (A : BallotMap) → Part A G → (v : Side) → Unanimous n t faulty G 0 v → (r : ℕ) → kind r ≡ Third → (S : ℕ → Bool) (u : Side) → Quorum n t A r S → Decides t (tally n A r S) u → u ≡ v
+    pub valid_decision : (A : BallotMap) → Part A G → (v : Side) → Unanimous n t faulty G 0 v → (r : ℕ) → kind r ≡ Third → (S : ℕ → Bool) (u : Side) → Quorum n t A r S → DecidesFor t (tally n A r S) u → u ≡ v
     valid_decision A part v all r e S u full d =
         let x = all_kept n t A G part r in
         (settled 0 v refl all r (third_late r e)).alone e S u (x.quorums S full) (omega (arith, x.tallies S full (proposal u)))
@@ -74,15 +74,15 @@ module _ (n t : ℕ) (G : BallotMap) where
 
 module _ (n t : ℕ) (third : 3 * t < n) (G : BallotMap) where
   -- of two decisions the later one follows the earlier
-  in_turn : (q r : ℕ) → kind q ≡ Third → kind r ≡ Third → q ≤ r → (S T : ℕ → Bool) (u v : Side) → Quorum n t G q S → Quorum n t G r T → Decides t (tally n G q S) u → Decides t (tally n G r T) v → v ≡ u
+  in_turn : (q r : ℕ) → kind q ≡ Third → kind r ≡ Third → q ≤ r → (S T : ℕ → Bool) (u v : Side) → Quorum n t G q S → Quorum n t G r T → DecidesFor t (tally n G q S) u → DecidesFor t (tally n G r T) v → v ≡ u
   in_turn q r e f l S T u v s s₁ d d₁ =
       ⊎_elim (λ (x : q < r). (settled_from n t G third u (suc q) (locked_next n t G q e S u s d) r (omega arith)).alone f T v s₁ d₁) (λ (x : r ≤ q). let is : q ≡ r = omega arith in (one_side n t G r).forced T T v u s₁ s₁ (omega arith) (subst (λ (k : ℕ). (T : ℕ → Bool) → Quorum n t G k T → Forces t (tally n G k T) u) is (forced_by n t G q e S u s d) T s₁)) (cases_lt q r)
 
-  whole : (q r : ℕ) → kind q ≡ Third → kind r ≡ Third → (S T : ℕ → Bool) (u v : Side) → Quorum n t G q S → Quorum n t G r T → Decides t (tally n G q S) u → Decides t (tally n G r T) v → u ≡ v
+  whole : (q r : ℕ) → kind q ≡ Third → kind r ≡ Third → (S T : ℕ → Bool) (u v : Side) → Quorum n t G q S → Quorum n t G r T → DecidesFor t (tally n G q S) u → DecidesFor t (tally n G r T) v → u ≡ v
   whole q r e f S T u v s s₁ d d₁ =
       ⊎_elim (λ (x : q < r). sym (in_turn q r e f (omega arith) S T u v s s₁ d d₁)) (λ (x : r ≤ q). in_turn r q f e x T S v u s₁ s d₁ d) (cases_lt q r)
 
-  pub agreement : (A B : BallotMap) → Part A G → Part B G → (q r : ℕ) → kind q ≡ Third → kind r ≡ Third → (S T : ℕ → Bool) (u v : Side) → Quorum n t A q S → Quorum n t B r T → Decides t (tally n A q S) u → Decides t (tally n B r T) v → u ≡ v
+  pub agreement : (A B : BallotMap) → Part A G → Part B G → (q r : ℕ) → kind q ≡ Third → kind r ≡ Third → (S T : ℕ → Bool) (u v : Side) → Quorum n t A q S → Quorum n t B r T → DecidesFor t (tally n A q S) u → DecidesFor t (tally n B r T) v → u ≡ v
   agreement A B a b q r e f S T u v s s₁ d d₁ =
       let x = all_kept n t A G a q in
       let y = all_kept n t B G b r in

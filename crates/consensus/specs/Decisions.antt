@@ -6,7 +6,7 @@ use Rattle.protocol.specs.Counting.{below}
 use Rattle.protocol.specs.Numbers.{ballot_number, vote, proposal}
 use Rattle.protocol.specs.declared.votes.Kind.TheVariants.{First, Third}
 use Rattle.protocol.specs.Phases.{kind}
-use Rattle.consensus.specs.Rounds.{BallotMap, tally, Forces, Decides, Allows, ballot_for}
+use Rattle.consensus.specs.Rounds.{BallotMap, tally, Forces, DecidesFor, Allows, ballot_for}
 use Rattle.protocol.specs.Faults.{CorrectOf}
 use Rattle.consensus.specs.Validity.{Valid, Quorum, Justified, lowest, Part, Resilient}
 
@@ -39,15 +39,15 @@ pub record Locked (n t : ℕ) (G : BallotMap) (r : ℕ) (v : Side) : Type 0 wher
 
 -- for every set of a third round
 abbrev pub Locking : Type 0
-Locking = (n t : ℕ) (G : BallotMap) (r : ℕ) → kind r ≡ Third → (S : ℕ → Bool) (v : Side) → Quorum n t G r S → Decides t (tally n G r S) v → Locked n t G r v
+Locking = (n t : ℕ) (G : BallotMap) (r : ℕ) → kind r ≡ Third → (S : ℕ → Bool) (v : Side) → Quorum n t G r S → DecidesFor t (tally n G r S) v → Locked n t G r v
 
 -- Every valid ballot of round r speaks for v, and if it is a third round, every set forces and
 -- decides v, and no other.
 pub record Settled (n t : ℕ) (G : BallotMap) (r : ℕ) (v : Side) : Type 0 where
   pub ballots : (o b : ℕ) → Valid n t G r o b → b ≡ ballot_number (ballot_for (kind r) v)
   pub forced : kind r ≡ Third → (S : ℕ → Bool) → Quorum n t G r S → Forces t (tally n G r S) v
-  pub decided : kind r ≡ Third → (S : ℕ → Bool) → Quorum n t G r S → Decides t (tally n G r S) v
-  pub alone : kind r ≡ Third → (S : ℕ → Bool) (u : Side) → Quorum n t G r S → Decides t (tally n G r S) u → u ≡ v
+  pub decided : kind r ≡ Third → (S : ℕ → Bool) → Quorum n t G r S → DecidesFor t (tally n G r S) v
+  pub alone : kind r ≡ Third → (S : ℕ → Bool) (u : Side) → Quorum n t G r S → DecidesFor t (tally n G r S) u → u ≡ v
 
 -- correct processes have valid ballots of round r for v only; nothing is asked of the faulty ones
 abbrev pub Unanimous : ℕ → ℕ → (ℕ → Bool) → BallotMap → ℕ → Side → Type 0
@@ -59,11 +59,11 @@ Settling = (n t : ℕ) (faulty : ℕ → Bool) → Resilient n t faulty → (G :
 
 -- So unanimous first ballots of correct processes are what any set of a part of G decides.
 abbrev pub UnanimityDecides : Type 0
-UnanimityDecides = (n t : ℕ) (faulty : ℕ → Bool) → Resilient n t faulty → (G A : BallotMap) → Part A G → (v : Side) → Unanimous n t faulty G 0 v → (r : ℕ) → kind r ≡ Third → (S : ℕ → Bool) (u : Side) → Quorum n t A r S → Decides t (tally n A r S) u → u ≡ v
+UnanimityDecides = (n t : ℕ) (faulty : ℕ → Bool) → Resilient n t faulty → (G A : BallotMap) → Part A G → (v : Side) → Unanimous n t faulty G 0 v → (r : ℕ) → kind r ≡ Third → (S : ℕ → Bool) (u : Side) → Quorum n t A r S → DecidesFor t (tally n A r S) u → u ≡ v
 
 -- Sets of any two third rounds, each of valid ballots in a part of G, decide one side.
 abbrev pub DecisionsAgree : Type 0
-DecisionsAgree = (n t : ℕ) → 3 * t < n → (G A B : BallotMap) → Part A G → Part B G → (q r : ℕ) → kind q ≡ Third → kind r ≡ Third → (S T : ℕ → Bool) (u v : Side) → Quorum n t A q S → Quorum n t B r T → Decides t (tally n A q S) u → Decides t (tally n B r T) v → u ≡ v
+DecisionsAgree = (n t : ℕ) → 3 * t < n → (G A B : BallotMap) → Part A G → Part B G → (q r : ℕ) → kind q ≡ Third → kind r ≡ Third → (S T : ℕ → Bool) (u v : Side) → Quorum n t A q S → Quorum n t B r T → DecidesFor t (tally n A q S) u → DecidesFor t (tally n B r T) v → u ≡ v
 
 -- What a process says after a third round, by the counts of the set that it went by: the side that
 -- the set forces, and if it forces none, the coin's side c.
@@ -95,4 +95,4 @@ pub record DecisionHappens (v : Side) (G : BallotMap) (S : ℕ → Bool) : Type 
   pub resilient : Resilient 4 1 (λ k. nat_eq k 3)
   pub unanimous : Unanimous 4 1 (λ k. nat_eq k 3) G 0 v
   pub quorum : Quorum 4 1 G 2 S
-  pub decides : Decides 1 (tally 4 G 2 S) v
+  pub decides : DecidesFor 1 (tally 4 G 2 S) v

@@ -4,7 +4,7 @@ use Rattle.protocol.specs.declared.votes.Side.{Side}
 use Rattle.protocol.specs.Numbers.{ballot_number, vote}
 use Rattle.protocol.specs.declared.votes.Kind.TheVariants.{First, Third}
 use Rattle.protocol.specs.Phases.{kind}
-use Rattle.consensus.specs.Rounds.{BallotMap, tally, Forces, Decides}
+use Rattle.consensus.specs.Rounds.{BallotMap, tally, Forces, DecidesFor}
 use Rattle.protocol.specs.Faults.{CorrectOf}
 use Rattle.consensus.specs.Validity.{Quorum, Justified, Part, Resilient}
 use Rattle.consensus.specs.Decisions.{Tossed, CanAdvance}
@@ -26,7 +26,7 @@ Joining = (n : ℕ) (faulty : ℕ → Bool) (own : ℕ → BallotMap) → Accept
 pub record DecidesBy (n t : ℕ) (own : ℕ → BallotMap) (i r : ℕ) (S : ℕ → Bool) (v : Side) : Type 0 where
   pub third : kind r ≡ Third
   pub quorum : Quorum n t (own i) r S
-  pub decides : Decides t (tally n (own i) r S) v
+  pub decides : DecidesFor t (tally n (own i) r S) v
 
 -- in round r, correct processes have accepted of correct processes votes for v only
 abbrev pub Votes : ℕ → (ℕ → Bool) → (ℕ → BallotMap) → ℕ → Side → Type 0

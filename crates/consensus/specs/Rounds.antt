@@ -24,8 +24,8 @@ abbrev pub Forces : ℕ → (Ballot → ℕ) → Side → Type 0
 Forces t count v = t < count (proposal v)
 
 -- and more than 2t decide it
-abbrev pub Decides : ℕ → (Ballot → ℕ) → Side → Type 0
-Decides t count v = 2 * t < count (proposal v)
+abbrev pub DecidesFor : ℕ → (Ballot → ℕ) → Side → Type 0
+DecidesFor t count v = 2 * t < count (proposal v)
 
 -- more than half of all n processes vote for v
 abbrev pub Most : ℕ → (Ballot → ℕ) → Side → Type 0

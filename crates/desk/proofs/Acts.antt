@@ -1,4 +1,4 @@
--- A carrier that keeps its messages in order of age does what `act` says. Assumes nothing.
+-- A carrier that keeps its messages in order of age does what `act` says.
 use Rattle.std.proofs.Common.{◌≡◌, ℕ, ◌+◌, List, [], ◌∷◌, ◌++◌, Some, None, Ok, Err, Option, Result, sym, refl, ap, ◌∙◌, append_assoc, append-nil}
 use Rattle.protocol.specs.declared.messages.Message.{Message}
 use Rattle.protocol.specs.declared.refusals.Refusal.{Refusal}
@@ -7,7 +7,7 @@ use Rattle.carrier.specs.Posting.{Posts, none, more}
 use Rattle.memory.specs.Contents.{Held, held}
 use Rattle.row.specs.Order.{TookAt, left_at, picked}
 use Rattle.cases.specs.Steps.{round_at}
-use Rattle.cases.specs.declared.steps.Step.{Step}
+use Rattle.cases.specs.declared.steps.Progress.{Progress}
 use Rattle.rules.specs.Turns.{Turn, Coin, Effect, Done, refusal, reacted, announcing, delivering, advancing}
 use Rattle.rules.specs.Runs.{Event, refused, announced, opened, forged, delivered, advanced, turn_of, Happens}
 use Rattle.runs.specs.Performed.{answer_of, asked, Carried, Performed}
@@ -17,7 +17,7 @@ use Rattle.runs.specs.declared.turns.Answer.TheVariants.{Announced, Posted, Deli
 use Rattle.carriers.specs.Kinds.{Basket}
 use Rattle.coin.specs.Sides.{word_side}
 use Rattle.form.specs.declared.forms.Form.{Form}
-use Rattle.item.specs.Tags.{number_of}
+use Rattle.item.specs.Tags.{tag_body}
 use Rattle.item.specs.declared.tags.Tag.{Tag}
 use Rattle.desk.specs.Desk.{waiting_in, places, state, keeping, asks, desk, desk_after, answered, turned, turns, acts_at, acts}
 use Rattle.desk.specs.declared.desks.Desk.{Desk}
@@ -26,11 +26,11 @@ use Rattle.desk.specs.Act.{acted, does, takes, goes, doing, acting_by, act}
 alike : {r s : Result Answer Refusal} {h k : Held} {ws us : List Message} → r ≡ s → h ≡ k → ws ≡ us → acted r h ws ≡ acted s k us
 alike e f g = λ i. record { answer = e i; memory = f i; waiting = g i }
 
-abbrev step_or : Step → Option Step → Step
+abbrev step_or : Progress → Option Progress → Progress
 step_or s None = s
 step_or s (Some t) = t
 
-some_step : {s t : Step} → Some s ≡ Some t → s ≡ t
+some_step : {s t : Progress} → Some s ≡ Some t → s ≡ t
 some_step {s} e = ap (step_or s) e
 
 module _ {C : Type 0} (listing : C → List Message) where
@@ -79,7 +79,7 @@ module _ {C : Type 0} (listing : C → List Message) where
     happened (advanced i c r forced decides reached n) next y a carried =
         let answer : ℕ → ℕ → Answer = λ z m. Advanced (record { round = z; posted = m }) in
         let same : carried.0 ≡ a.step = some_step (sym carried.1 ∙ a.by) in
-        let waits = posted x carried.2 ∙ ap (λ (t : Step). ws ++ (advancing line h coin i c r t).sent) same in
+        let waits = posted x carried.2 ∙ ap (λ (t : Progress). ws ++ (advancing line h coin i c r t).sent) same in
         allowed (turn_of (advanced i c r forced decides reached n)) a.done.allowed
         ∙ ap (goes line coin h ws i c (round_at line.plan h i c)) a.by
         ∙ ap (λ (z : ℕ). does (advancing line h coin i c z a.step) ws (answer (z + 1))) (sym a.from)
@@ -92,13 +92,13 @@ module _ {C : Type 0} (listing : C → List Message) where
         sym (ap (act line coin h ws capacity) (sym p.told) ∙ happened p.event next y p.occurs.happens p.occurs.carried ∙ alike (sym p.answer) refl refl)
 
 -- a turn that was made where a line is open, with a coin that shows keep
-pub turn_made : (d : Desk) (line : Line) (form : Form) (ok : Tag → Type 0) (turn : runs.Turn Tag) (word : ℕ) (r : Result Answer Refusal) (next : Held) (after : Basket) → d.line ≡ Some line → Ok (asked number_of turn) ≡ asks form → word ≡ 0 → Performed waiting_in (behind waiting_in) (picking waiting_in) line (λ process. word_side word) (held d.memory) ok number_of (places d) turn r d.basket next after → desk_after (answered r) (desk d.line next (waiting_in after)) ≡ acts (places d) (state d) form
+pub turn_made : (d : Desk) (line : Line) (form : Form) (ok : Tag → Type 0) (turn : runs.Turn Tag) (word : ℕ) (r : Result Answer Refusal) (next : Held) (after : Basket) → d.line ≡ Some line → Ok (asked tag_body turn) ≡ asks form → word ≡ 0 → Performed waiting_in (behind waiting_in) (picking waiting_in) line (λ process. word_side word) (held d.memory) ok tag_body (places d) turn r d.basket next after → desk_after (answered r) (desk d.line next (waiting_in after)) ≡ acts (places d) (state d) form
 turn_made d line form ok turn word r next after is_open told keeps made =
     let h = held d.memory in
     let ws = waiting_in d.basket in
-    let acts_so : acted r next (waiting_in after) ≡ act line keeping h ws (places d) (asked number_of turn) =
-    performed waiting_in line (λ process. word_side word) h (places d) d.basket ok number_of turn r next after made
-    ∙ ap (λ (w : ℕ). act line (λ process. word_side w) h ws (places d) (asked number_of turn)) keeps in
+    let acts_so : acted r next (waiting_in after) ≡ act line keeping h ws (places d) (asked tag_body turn) =
+    performed waiting_in line (λ process. word_side word) h (places d) d.basket ok tag_body turn r next after made
+    ∙ ap (λ (w : ℕ). act line (λ process. word_side w) h ws (places d) (asked tag_body turn)) keeps in
     (λ j. desk_after (answered r) (desk (is_open j) next (waiting_in after)))
     ∙ (ap (turned line) (acts_so ∙ ap (turns (places d) line h ws) told)
     ∙ ap (λ (l : Option Line). acts_at (places d) l h ws form) (sym is_open))

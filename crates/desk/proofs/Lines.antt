@@ -1,4 +1,4 @@
--- The line of a draft, and of a form. Assumes nothing.
+-- The line of a draft, and of a form.
 use Rattle.std.proofs.Common.{◌≡◌, ℕ, suc, ◌^◌, ◌<◌, ◌≤◌, Bool, true, false, List, Some, None, Ok, Err, Option, Result, MatchResult, IsErrAnd, sym, refl, ap, ◌∙◌}
 use mathlib.Core.HLevel.{is_prop→PathP}
 use native.Mathlib.Bridge.{le_prop}
@@ -14,7 +14,7 @@ use Rattle.form.specs.declared.forms.Form.TheVariants as form
 use Rattle.form.specs.declared.forms.LineForm.{LineForm}
 use Rattle.memory.specs.Contents.{Held, cleared}
 use Rattle.line.specs.Opening.{open_refusal, LineOpened, LineNotOpened, OpensLine}
-use Rattle.desk.specs.Desk.{marking, lawful, line_if, line_of, line_made, opens_with, opens_marked, opens_planned, opens, opens_by}
+use Rattle.desk.specs.Desk.{marking, marks_lawful, line_if, line_of, line_made, opens_with, opens_marked, opens_planned, opens, opens_by}
 
 -- lines with equal plans and marks are equal
 same_line : (l k : Line) → l.plan ≡ k.plan → l.marks ≡ k.marks → l ≡ k
@@ -30,8 +30,8 @@ same_line l k plan marks = λ i.
 -- a line is what its plan and marks make
 line_is : (line : Line) → line_of line.plan line.marks ≡ Ok line
 unfolding line_of
-line_is line = go (lawful line.plan line.marks) refl where
-  go : (b : Bool) (e : lawful line.plan line.marks ≡ b) → line_if line.plan line.marks b e ≡ Ok line
+line_is line = go (marks_lawful line.plan line.marks) refl where
+  go : (b : Bool) (e : marks_lawful line.plan line.marks ≡ b) → line_if line.plan line.marks b e ≡ Ok line
   go true e = ap Ok (same_line _ line refl refl)
   go false e = absurd (true≢false (sym (and_from _ _ (le-leb (ones line.marks) line.plan.t line.few) (lt-ltb line.marks (2 ^ line.plan.n) line.inside)) ∙ e))
 

@@ -21,7 +21,7 @@ use Rattle.row.specs.Order.{answer_at, left_at, picked}
 use Rattle.row.proofs.Order as order
 use Rattle.cases.proofs.Going.{law}
 use Rattle.cases.specs.Steps.{round_at, may_advance, step_at, chosen}
-use Rattle.cases.specs.declared.steps.Step.{Step}
+use Rattle.cases.specs.declared.steps.Progress.{Progress}
 use Rattle.line.specs.Opening.{open_refusal}
 use Rattle.line.proofs.Opened.{opened_idle}
 use Rattle.form.specs.declared.forms.Form.{Form}
@@ -69,7 +69,7 @@ module _ (line : Line) (coin : Coin) (h : Held) (ws : List Message) (capacity : 
   }
   event_taken i pick (Err e) allowed some taken = let none = taken.none in absurd (omega arith)
 
-  event_gone : (i c : ℕ) (o : Option Step) → refusal line capacity h ws (Advance i c) ≡ None → may_advance line.plan h i c ≡ true → step_at line.plan h i c ≡ o → By (Advance i c) (goes line coin h ws i c (round_at line.plan h i c) o)
+  event_gone : (i c : ℕ) (o : Option Progress) → refusal line capacity h ws (Advance i c) ≡ None → may_advance line.plan h i c ≡ true → step_at line.plan h i c ≡ o → By (Advance i c) (goes line coin h ws i c (round_at line.plan h i c) o)
   event_gone i c (Some step) allowed may is = record {
     event = runs.advanced i c (round_at line.plan h i c) step.forced step.decides (round_at line.plan h i c + 1) _;
     told = refl;

@@ -1,4 +1,4 @@
--- What one turn does where the messages that wait stand in order of age and the one that is picked is taken. Assumes nothing.
+-- What one turn does where the messages that wait stand in order of age and the one that is picked is taken.
 use Rattle.std.specs.Prelude.{ℕ, ◌+◌, List, ◌++◌, length, Some, None, Ok, Err, Option, Result}
 use Rattle.protocol.specs.declared.messages.Message.{Message}
 use Rattle.protocol.specs.declared.refusals.Refusal.{Refusal}
@@ -7,7 +7,7 @@ use Rattle.plan.specs.Kinds.{Line}
 use Rattle.memory.specs.Contents.{Held, serial_at}
 use Rattle.row.specs.Order.{answer_at, left_at, picked}
 use Rattle.cases.specs.Steps.{round_at, step_at}
-use Rattle.cases.specs.declared.steps.Step.{Step}
+use Rattle.cases.specs.declared.steps.Progress.{Progress}
 use Rattle.rules.specs.Turns.{Turn, Announce, Open, Forge, Deliver, Advance, Coin, Effect, refusal, reacted, announcing, opening, forging, delivering, advancing}
 use Rattle.runs.specs.declared.turns.Answer.{Answer}
 use Rattle.runs.specs.declared.turns.Answer.TheVariants.{Announced, Posted, Delivered, Advanced}
@@ -31,7 +31,7 @@ module _ (line : Line) (coin : Coin) (h : Held) (ws : List Message) where
   takes (Err e) left = acted (Err e) h ws
   takes (Ok m) left = does (delivering line h m) left (λ k. Delivered (record { posted = k; accepted = (reacted line m h).reaction.accepted }))
 
-  abbrev pub goes : ℕ → ℕ → ℕ → Option Step → Acted
+  abbrev pub goes : ℕ → ℕ → ℕ → Option Progress → Acted
   goes i c r None = acted (Err MayNotAdvance) h ws
   goes i c r (Some step) = does (advancing line h coin i c r step) ws (λ k. Advanced (record { round = r + 1; posted = k }))
 

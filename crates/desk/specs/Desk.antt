@@ -1,4 +1,4 @@
--- What a form does at a desk: with no line open it may open one, and then it may be a turn. Assumes nothing.
+-- What a form does at a desk: with no line open it may open one, and then it may be a turn.
 use Rattle.std.specs.Prelude.{◌≡◌, ℕ, ◌^◌, Bool, true, false, ◌&&◌, List, [], ◌∷◌, Some, None, Ok, Err, Option, Result, count_ones, nat_le, nat_lt, refl}
 use Rattle.std.proofs.lemmas.Bool.{and_parts, leb-true, ltb-true}
 use Rattle.protocol.specs.Messages.{made}
@@ -9,7 +9,7 @@ use Rattle.plan.specs.Marks.{mark_answer, marks_after}
 use Rattle.plan.specs.Plans.{planned}
 use Rattle.plan.specs.declared.plans.Plan.{Plan}
 use Rattle.plan.specs.Kinds.{Draft, Line}
-use Rattle.item.specs.Tags.{tagged, number_of}
+use Rattle.item.specs.Tags.{tagged, tag_body}
 use Rattle.item.specs.declared.tags.Tag.{Tag}
 use Rattle.coin.specs.Sides.{word_side}
 use Rattle.form.specs.declared.forms.Form.{Form}
@@ -53,10 +53,10 @@ drafted (Ok draft) = Ok draft.marks
 drafted (Err e) = Err e
 
 module _ (plan : Plan) (marks : ℕ) where
-  abbrev pub lawful : Bool
-  lawful = nat_le (count_ones marks) plan.t && nat_lt marks (2 ^ plan.n)
+  abbrev pub marks_lawful : Bool
+  marks_lawful = nat_le (count_ones marks) plan.t && nat_lt marks (2 ^ plan.n)
 
-  abbrev pub line_if : (b : Bool) → lawful ≡ b → Result Line Refusal
+  abbrev pub line_if : (b : Bool) → marks_lawful ≡ b → Result Line Refusal
   line_if false e = Err MarkRefused
   line_if true e =
       let a = and_parts (nat_le (count_ones marks) plan.t) (nat_lt marks (2 ^ plan.n)) e in
@@ -64,7 +64,7 @@ module _ (plan : Plan) (marks : ℕ) where
 
   -- the line with this plan and these marks; the marks of a draft make one
   unfoldable pub line_of : Result Line Refusal
-  line_of = line_if lawful refl
+  line_of = line_if marks_lawful refl
 
 -- what opening a line answers, and what is then in memory
 pub record LineMade : Type 0 where
@@ -103,25 +103,25 @@ module _ (h : Held) (ws : List Message) where
   opens_by (form.Advance c k) = line_made (Err LineOutOfPlace) h
 
 -- The turn that a form asks for where a line is open: its tag or its message is made first.
-abbrev pub announcing : ℕ → Result Tag Refusal → Result Turn Refusal
-announcing i (Ok tag) = Ok (Announce i (number_of tag))
-announcing i (Err e) = Err e
+abbrev pub announce_turn : ℕ → Result Tag Refusal → Result Turn Refusal
+announce_turn i (Ok tag) = Ok (Announce i (tag_body tag))
+announce_turn i (Err e) = Err e
 
-abbrev pub forging : Result Message Refusal → Result Turn Refusal
-forging (Ok m) = Ok (Forge m)
-forging (Err e) = Err e
+abbrev pub forge_turn : Result Message Refusal → Result Turn Refusal
+forge_turn (Ok m) = Ok (Forge m)
+forge_turn (Err e) = Err e
 
 abbrev pub asks : Form → Result Turn Refusal
 asks (form.Line l) = Err LineOutOfPlace
-asks (form.Announce c t) = announcing c (tagged t)
+asks (form.Announce c t) = announce_turn c (tagged t)
 asks (form.Open c k v) = Ok (Open c k v)
-asks (form.Forge g) = forging (made g.from g.to g.step g.subject g.body)
+asks (form.Forge g) = forge_turn (made g.from g.to g.step g.subject g.body)
 asks (form.Deliver c p) = Ok (Deliver c p)
 asks (form.Advance c k) = Ok (Advance c k)
 
 -- a turn that was made, by the rules
 abbrev pub asking : Result (runs.Turn Tag) Refusal → Result Turn Refusal
-asking (Ok turn) = Ok (asked number_of turn)
+asking (Ok turn) = Ok (asked tag_body turn)
 asking (Err e) = Err e
 
 -- what is at a desk

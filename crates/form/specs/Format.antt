@@ -10,9 +10,9 @@ use Rattle.form.specs.declared.forms.ForgeForm.{ForgeForm}
 use Rattle.form.specs.declared.forms.Form.{Form}
 use Rattle.form.specs.declared.forms.Form.TheVariants.{Line, Announce, Open as Opening, Forge, Deliver, Advance}
 
-abbrev pub marked : List ℕ → List ℕ
-marked [] = []
-marked (m ∷ ms) = codes " " ++ (decimal m ++ marked ms)
+abbrev pub marks_written : List ℕ → List ℕ
+marks_written [] = []
+marks_written (m ∷ ms) = codes " " ++ (decimal m ++ marks_written ms)
 
 abbrev pub stepped : Step → List ℕ
 stepped Initial = codes "initial"
@@ -25,10 +25,10 @@ subjected (Ballot o c r) = codes "(ballot " ++ (decimal o ++ (codes " " ++ (deci
 
 abbrev pub lined : LineForm → List ℕ
 lined l =
-    codes "(line (counters " ++ (decimal l.counters ++ (codes ") (tolerate " ++ (decimal l.tolerate ++ (codes ") (strange" ++ (marked l.strange ++ codes "))")))))
+    codes "(line (counters " ++ (decimal l.counters ++ (codes ") (tolerate " ++ (decimal l.tolerate ++ (codes ") (strange" ++ (marks_written l.strange ++ codes "))")))))
 
-abbrev pub forged : ForgeForm → List ℕ
-forged g =
+abbrev pub forge_written : ForgeForm → List ℕ
+forge_written g =
     codes "(forge (from " ++ (decimal g.from ++ (codes ") (to " ++ (decimal g.to ++ (codes ") (" ++ (stepped g.step ++ (codes " " ++ (subjected g.subject ++ (codes ") (body " ++ (decimal g.body ++ codes "))")))))))))
 
 -- the text of a form
@@ -37,7 +37,7 @@ written (Line l) = lined l
 written (Announce c t) = codes "(announce (counter " ++ (decimal c ++ (codes ") (tag " ++ (decimal t ++ codes "))")))
 written (Opening c n v) =
     codes "(open (counter " ++ (decimal c ++ (codes ") (case " ++ (decimal n ++ (codes ") (vote " ++ (decimal v ++ codes "))")))))
-written (Forge g) = forged g
+written (Forge g) = forge_written g
 written (Deliver c n) = codes "(deliver (counter " ++ (decimal c ++ (codes ") (pick " ++ (decimal n ++ codes "))")))
 written (Advance c n) = codes "(advance (counter " ++ (decimal c ++ (codes ") (case " ++ (decimal n ++ codes "))")))
 

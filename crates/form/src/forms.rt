@@ -1,4 +1,4 @@
-ghost use Rattle.form.specs.Format.{marked, stepped, subjected, lined, forged, written};
+ghost use Rattle.form.specs.Format.{marks_written, stepped, subjected, lined, forge_written, written};
 ghost use Rattle.text.specs.Shown.{Appends};
 
 use crate::marks::Marks;
@@ -80,7 +80,7 @@ fn put_subject(text: Text, subject: Subject) -> Result<Text, NoMemory>
 }
 
 fn put_marks(mut text: Text, marks: &Marks) -> Result<Text, NoMemory>
-    ensures { Appends result text (marked marks.now) }
+    ensures { Appends result text (marks_written marks.now) }
 {
     for mark in marks.as_slice() {
         text = text.put_field(b" ", *mark)?;
@@ -102,7 +102,7 @@ impl LineForm {
 
 impl ForgeForm {
     fn write_to(&self, text: Text) -> Result<Text, NoMemory>
-        ensures { Appends result text (forged self.now) }
+        ensures { Appends result text (forge_written self.now) }
     {
         let text = text
             .put_field(b"(forge (from ", self.from)?

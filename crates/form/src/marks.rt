@@ -16,9 +16,9 @@ impl Model for Marks {
 
     ghost Value = { List ℕ };
 
-    ghost use Rattle.form.specs.Padded.{listed, Padded, padded, padded_listed};
+    ghost use Rattle.form.specs.Padded.{marks_listed, Padded, padded, padded_listed};
 
-    ghost view = { listed };
+    ghost view = { marks_listed };
 
     ghost invariant = { Padded };
 

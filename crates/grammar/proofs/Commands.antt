@@ -6,7 +6,7 @@ use Rattle.protocol.specs.declared.messages.Subject.{Subject}
 use Rattle.form.specs.declared.forms.Form.{Form}
 use Rattle.form.specs.declared.forms.Form.TheVariants.{Line, Announce, Open as Opening, Forge, Deliver, Advance}
 use Rattle.form.specs.Format.{Fits64, FormFits, stepped}
-use Rattle.grammar.specs.Grammar.{Shape, done, word, field, commands, command, line, announce, opening, forge, deliver, advance, form, all_marks}
+use Rattle.grammar.specs.Grammar.{Shape, done, word, field, commands, command, line, announce, open_command, forge, deliver, advance, form, all_marks}
 use Rattle.grammar.proofs.Machine.{good, Yields, Live}
 use Rattle.grammar.proofs.PartLaws.{Part, Branch, Offered, fielded, field_part, after_word, before_word, both, both_free, branch, choice}
 use Rattle.grammar.proofs.Values.{step_part, subject_part, subject_tokens, mark_tokens, strange_part}
@@ -34,7 +34,7 @@ abbrev after : (Form → Shape) → List ℕ → Shape
 after k p =
     cond (bytes_eq p (codes "line")) (line k)
     (cond (bytes_eq p (codes "announce")) (announce k)
-    (cond (bytes_eq p (codes "open")) (opening k)
+    (cond (bytes_eq p (codes "open")) (open_command k)
     (cond (bytes_eq p (codes "forge")) (forge k)
     (cond (bytes_eq p (codes "deliver")) (deliver k) (advance k)))))
 
@@ -74,7 +74,7 @@ pair_part a b g h make = both make (field_part a g) (before_word (field_part b h
 announce_part : Makes announce announces
 announce_part = pair_part (codes "counter") (codes "tag") refl refl Announce
 
-opening_part : Makes opening openings
+opening_part : Makes open_command openings
 opening_part =
     both (λ (c : ℕ) (x : ℕ × ℕ). Opening c x.0 x.1) (field_part (codes "counter") refl)
     (both (λ (n v : ℕ). (n, v)) (field_part (codes "case") refl) (before_word (field_part (codes "vote") refl) (codes ")") refl))

@@ -9,7 +9,7 @@ use Rattle.protocol.specs.declared.messages.Subject.TheVariants.{Item, Ballot}
 use Rattle.token.specs.Tokens.{pieces}
 use Rattle.form.specs.declared.forms.Form.{Form}
 use Rattle.form.specs.declared.forms.Form.TheVariants.{Line, Announce, Open as Opening, Forge, Deliver, Advance}
-use Rattle.form.specs.Format.{Fits64, SubjectFits, FormFits, stepped, marked, subjected, written}
+use Rattle.form.specs.Format.{Fits64, SubjectFits, FormFits, stepped, marks_written, subjected, written}
 use Rattle.grammar.proofs.Commands.{tokens}
 use Rattle.grammar.proofs.Digits.{pieces_decimal}
 use Rattle.grammar.proofs.Values.{subject_tokens, mark_tokens}
@@ -36,7 +36,7 @@ subject_cut (Ballot o c r) rest h = rw (spaced o _ rest h.0, spaced c _ rest h.1
 
 -- marks end in a bracket
 abbrev tail : List ℕ → List ℕ
-tail ms = marked ms ++ codes "))"
+tail ms = marks_written ms ++ codes "))"
 
 marks_end : (ms : List ℕ) → is_ascii_digit (get_or (tail ms) 0 0) ≡ false
 marks_end [] = refl
@@ -44,7 +44,7 @@ marks_end (m ∷ ms) = refl
 
 marks_cut : (ms : List ℕ) → AllByRecursion Fits64 ms → pieces (tail ms) ≡ mark_tokens ms (codes ")" ∷ [])
 marks_cut [] h = refl
-marks_cut (m ∷ ms) h = ap (λ ps. codes " " ∷ ps) (within m (marked ms) (codes "))") h.0 (marks_end ms) ∙ ap (λ ps. decimal m ∷ ps) (marks_cut ms h.1))
+marks_cut (m ∷ ms) h = ap (λ ps. codes " " ∷ ps) (within m (marks_written ms) (codes "))") h.0 (marks_end ms) ∙ ap (λ ps. decimal m ∷ ps) (marks_cut ms h.1))
 
 strange_cut : (ms : List ℕ) → pieces (codes "strange" ++ tail ms) ≡ codes "strange" ∷ pieces (tail ms)
 strange_cut [] = refl

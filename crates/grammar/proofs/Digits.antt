@@ -8,7 +8,7 @@ use Rattle.std.specs.Char.{is_ascii_digit}
 use Rattle.std.specs.List.{fold, AllByRecursion}
 use Rattle.std.specs.Str.{all_ascii_digits}
 use Rattle.token.proofs.Pieces.{pieces_on, pieces_apart}
-use Rattle.token.specs.Tokens.{joins, front, behind, lead, pieces, pushed, worth}
+use Rattle.token.specs.Tokens.{joins, front, behind, lead, pieces, with_digit, worth}
 use Rattle.form.specs.Format.{Fits64}
 use Rattle.grammar.proofs.Machine.{plain, good}
 
@@ -31,7 +31,7 @@ plain_pieces (b ∷ bs) = plain_before b (pieces bs) (joins b (lead (pieces bs))
 
 -- for the shelf's lemmas on decimals
 own : IsNumeralModel (λ ds. all_ascii_digits ds ≡ true) worth
-own = numerals_by_fold _ tells_all_ascii_digits (fold pushed) (search rules)
+own = numerals_by_fold _ tells_all_ascii_digits (fold with_digit) (search rules)
 
 some_from_digit : (p : List ℕ) → is_ascii_digit (get_or p 0 0) ≡ true → 0 < length p
 some_from_digit [] d = absurd (both_ways false refl d)

@@ -4,8 +4,8 @@ use Rattle.std.proofs.lemmas.Bool.{and_parts, and_from, both_ways, cond-true}
 use Rattle.std.specs.Char.{is_ascii_digit}
 use Rattle.std.specs.List.{concat, AllByRecursion}
 use Rattle.std.specs.Str.{all_ascii_digits}
-use Rattle.token.specs.declared.fault.Place.{Place}
-use Rattle.token.specs.Scan.{onward}
+use Rattle.token.specs.declared.fault.Position.{Position}
+use Rattle.token.specs.Scan.{bytes_on}
 use Rattle.token.specs.Tokens.{front, behind, lawful}
 use Rattle.grammar.specs.declared.fault.FormFault.{FormFault}
 use Rattle.form.specs.declared.forms.Form.{Form}
@@ -38,22 +38,22 @@ completed (next fits then) l =
     (p ∷ c.0, c.1, (p, c.0, refl, l.1, l.2, c.2))
 
 -- a fault e, as the format tells it, of the tokens ps from a place on
-pub record Stops (s : Shape) (at : Place) (ps : List (List ℕ)) (e : FormFault) : Type 0 where
+pub record Stops (s : Shape) (at : Position) (ps : List (List ℕ)) (e : FormFault) : Type 0 where
   pub before : List (List ℕ)
   pub after : List (List ℕ)
   pub cut : ps ≡ before ++ after
-  pub place : e ≡ fault_at (onward at (length (concat before))) after
+  pub place : e ≡ fault_at (bytes_on at (length (concat before))) after
   pub begun : Form
   pub rest : List (List ℕ)
   pub begins : Yields s (before ++ rest) begun
   pub nowhere : (f : Form) (more : List (List ℕ)) → Yields s (before ++ more) f → first_token more ≡ first_token after → ⊥
 
-abbrev Outcome : Shape → Place → List (List ℕ) → Result Form FormFault → Type 0
+abbrev Outcome : Shape → Position → List (List ℕ) → Result Form FormFault → Type 0
 Outcome s at ps (Ok f) = Yields s ps f
 Outcome s at ps (Err e) = Stops s at ps e
 
 -- the first token is at fault, or the end
-at_once : (s : Shape) (at : Place) (ps : List (List ℕ)) → Live s → ((f : Form) (more : List (List ℕ)) → Yields s more f → first_token more ≡ first_token ps → ⊥) → Stops s at ps (fault_at at ps)
+at_once : (s : Shape) (at : Position) (ps : List (List ℕ)) → Live s → ((f : Form) (more : List (List ℕ)) → Yields s more f → first_token more ≡ first_token ps → ⊥) → Stops s at ps (fault_at at ps)
 at_once s at ps l none =
     let c = completed s l in
     record {
@@ -78,7 +78,7 @@ taken fits then p ps f y =
 
 -- a first token p that is read, and one that is not
 module _ (fits : List ℕ → Bool) (then : List ℕ → Shape) (p : List ℕ) (ps : List (List ℕ)) where
-  further : (at : Place) → lawful p ≡ true → fits p ≡ true → plain p ≡ true → (r : Result Form FormFault) → Outcome (then p) (onward at (length p)) ps r → Outcome (next fits then) at (p ∷ ps) r
+  further : (at : Position) → lawful p ≡ true → fits p ≡ true → plain p ≡ true → (r : Result Form FormFault) → Outcome (then p) (bytes_on at (length p)) ps r → Outcome (next fits then) at (p ∷ ps) r
   further at a b c (Ok f) y = (p, ps, refl, and_from (lawful p) (plain p) a c, b, y)
   further at a b c (Err e) t =
       let long : at.byte + length p + length (concat t.before) ≡ at.byte + length (p ++ concat t.before) = omega (arith, length-append p (concat t.before)) in
@@ -93,36 +93,36 @@ module _ (fits : List ℕ → Bool) (then : List ℕ → Shape) (p : List ℕ) (
         nowhere = λ f more y same. t.nowhere f more (taken fits then p (t.before ++ more) f y) same;
       }
 
-  refused : (at : Place) → Live (next fits then) → (lawful p && fits p) ≡ false → Stops (next fits then) at (p ∷ ps) (misplaced at p)
+  refused : (at : Position) → Live (next fits then) → (lawful p && fits p) ≡ false → Stops (next fits then) at (p ∷ ps) (misplaced at p)
   refused at l unfit = at_once (next fits then) at (p ∷ ps) l (λ f more y same.
       let is : y.0 ≡ p = cc (ap first_token y.2) in
       both_ways (lawful p && fits p) unfit (and_from (lawful p) (fits p) (ap lawful (sym is) ∙ (and_parts (lawful y.0) (plain y.0) y.3).0) (ap fits (sym is) ∙ y.4)))
 
 -- a run ends in the form that its tokens yield, or stops in a fault
-outcome : (s : Shape) (at : Place) (ps : List (List ℕ)) → Live s → AllByRecursion (λ p. plain p ≡ true) ps → Outcome s at ps (run s at ps)
+outcome : (s : Shape) (at : Position) (ps : List (List ℕ)) → Live s → AllByRecursion (λ p. plain p ≡ true) ps → Outcome s at ps (run s at ps)
 unfolding run
 outcome (done f) at [] l h = (refl, refl)
 outcome (done f) at (p ∷ ps) l h = at_once (done f) at (p ∷ ps) l (λ g more y same. apart p (first_token more) (ap first_token y.0) same)
 outcome (next fits then) at [] l h = at_once (next fits then) at [] l (λ g more y same. apart y.0 (first_token more) same (ap first_token y.2))
 outcome (next fits then) at (p ∷ ps) l h =
-    go (lawful p && fits p) refl (λ q. outcome (then p) (onward at (length p)) ps q h.1)
+    go (lawful p && fits p) refl (λ q. outcome (then p) (bytes_on at (length p)) ps q h.1)
   where
-    go : (t : Bool) → (lawful p && fits p) ≡ t → (Live (then p) → Outcome (then p) (onward at (length p)) ps (run (then p) (onward at (length p)) ps)) → Outcome (next fits then) at (p ∷ ps) (cond t (run (then p) (onward at (length p)) ps) (Err (misplaced at p)))
+    go : (t : Bool) → (lawful p && fits p) ≡ t → (Live (then p) → Outcome (then p) (bytes_on at (length p)) ps (run (then p) (bytes_on at (length p)) ps)) → Outcome (next fits then) at (p ∷ ps) (cond t (run (then p) (bytes_on at (length p)) ps) (Err (misplaced at p)))
     go true e ih =
         let t = and_parts (lawful p) (fits p) e in
-        further fits then p ps at t.0 t.1 h.0 (run (then p) (onward at (length p)) ps) (ih (l.3 p (and_from (lawful p) (plain p) t.0 h.0) t.1))
+        further fits then p ps at t.0 t.1 h.0 (run (then p) (bytes_on at (length p)) ps) (ih (l.3 p (and_from (lawful p) (plain p) t.0 h.0) t.1))
     go false e ih = refused fits then p ps at l e
 
-pub yields_from_run : (s : Shape) (at : Place) (ps : List (List ℕ)) (f : Form) → Live s → AllByRecursion (λ p. plain p ≡ true) ps → run s at ps ≡ Ok f → Yields s ps f
+pub yields_from_run : (s : Shape) (at : Position) (ps : List (List ℕ)) (f : Form) → Live s → AllByRecursion (λ p. plain p ≡ true) ps → run s at ps ≡ Ok f → Yields s ps f
 yields_from_run s at ps f l h e = subst (Outcome s at ps) e (outcome s at ps l h)
 
-pub stops_from_run : (s : Shape) (at : Place) (ps : List (List ℕ)) (e : FormFault) → Live s → AllByRecursion (λ p. plain p ≡ true) ps → run s at ps ≡ Err e → Stops s at ps e
+pub stops_from_run : (s : Shape) (at : Position) (ps : List (List ℕ)) (e : FormFault) → Live s → AllByRecursion (λ p. plain p ≡ true) ps → run s at ps ≡ Err e → Stops s at ps e
 stops_from_run s at ps e l h r = subst (Outcome s at ps) r (outcome s at ps l h)
 
-pub run_from_yields : (s : Shape) (at : Place) (ps : List (List ℕ)) (f : Form) → Yields s ps f → run s at ps ≡ Ok f
+pub run_from_yields : (s : Shape) (at : Position) (ps : List (List ℕ)) (f : Form) → Yields s ps f → run s at ps ≡ Ok f
 unfolding run
 run_from_yields (done g) at ps f y = ap (run (done g) at) y.0 ∙ ap Ok y.1
 run_from_yields (next fits then) at ps f y =
     let p = y.0 in
     let fit = and_from (lawful p) (fits p) (and_parts (lawful p) (plain p) y.3).0 y.4 in
-    ap (run (next fits then) at) y.2 ∙ (cond-true (lawful p && fits p) _ _ fit ∙ run_from_yields (then p) (onward at (length p)) y.1 f y.5)
+    ap (run (next fits then) at) y.2 ∙ (cond-true (lawful p && fits p) _ _ fit ∙ run_from_yields (then p) (bytes_on at (length p)) y.1 f y.5)

@@ -1,7 +1,7 @@
 -- Reading and writing agree, and a fault stands where no written form goes on.
 use Rattle.std.proofs.Common.{◌≡◌, ℕ, List, ◌++◌, Ok, sym, ap, ◌∙◌, subst}
 use Rattle.std.specs.List.{concat}
-use Rattle.token.specs.declared.fault.Place.{Place}
+use Rattle.token.specs.declared.fault.Position.{Position}
 use Rattle.token.specs.Tokens.{pieces}
 use Rattle.token.proofs.Pieces.{joined_pieces}
 use Rattle.form.specs.declared.forms.Form.{Form}
@@ -20,7 +20,7 @@ text_yields ps f h e = subst (λ qs. Yields form qs f) (sym (pieces_written f h)
 text_of : (ps : List (List ℕ)) (f : Form) → Yields form ps f → FormFits f × (pieces (written f) ≡ ps)
 text_of ps f y = let r = form_read ps f y in (r.0, pieces_written f r.0 ∙ sym r.1)
 
-abbrev start : ℕ → Place
+abbrev start : ℕ → Position
 start at = record { line = at; byte = 1 }
 
 pub exact : (at : ℕ) (s : List ℕ) → Exact s (reading at s)

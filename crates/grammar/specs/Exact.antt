@@ -1,7 +1,7 @@
 -- What reading owes to writing.
 use Rattle.std.specs.Prelude.{◌≡◌, ℕ, ◌+◌, List, [], ◌∷◌, ◌++◌, length, Some, None, Ok, Err, Option, Result, ◌≢◌}
 use Rattle.std.specs.List.{concat}
-use Rattle.token.specs.declared.fault.Place.{Place}
+use Rattle.token.specs.declared.fault.Position.{Position}
 use Rattle.token.specs.Tokens.{pieces}
 use Rattle.form.specs.declared.forms.Form.{Form}
 use Rattle.form.specs.Format.{written, FormFits}
@@ -20,7 +20,7 @@ first_token [] = None
 first_token (p ∷ ps) = Some p
 
 -- the fault of the next of these tokens, or of their end
-abbrev pub fault_at : Place → List (List ℕ) → FormFault
+abbrev pub fault_at : Position → List (List ℕ) → FormFault
 fault_at at [] = Unexpected at
 fault_at at (p ∷ ps) = misplaced at p
 

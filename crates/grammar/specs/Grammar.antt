@@ -6,8 +6,8 @@ use Rattle.protocol.specs.declared.messages.Step.{Step}
 use Rattle.protocol.specs.declared.messages.Step.TheVariants.{Initial, Echo, Ready}
 use Rattle.protocol.specs.declared.messages.Subject.{Subject}
 use Rattle.protocol.specs.declared.messages.Subject.TheVariants.{Item, Ballot}
-use Rattle.token.specs.declared.fault.Place.{Place}
-use Rattle.token.specs.Scan.{onward}
+use Rattle.token.specs.declared.fault.Position.{Position}
+use Rattle.token.specs.Scan.{bytes_on}
 use Rattle.token.specs.Tokens.{pieces, lawful, worth}
 use Rattle.grammar.specs.declared.fault.FormFault.{FormFault}
 use Rattle.grammar.specs.declared.fault.FormFault.TheVariants.{Token, Unexpected}
@@ -20,16 +20,16 @@ pub data Shape : Type 0 where
   next : (List ℕ → Bool) → (List ℕ → Shape) → Shape
 
 -- the fault of a token that does not belong at its place
-abbrev pub misplaced : Place → List ℕ → FormFault
+abbrev pub misplaced : Position → List ℕ → FormFault
 misplaced at p = cond (lawful p) (Unexpected at) (Token (record { place = at }))
 
 -- Reads tokens from a place. The first that does not fit is told, and of a token that is not
 -- lawful that.
-unfoldable pub run : Shape → Place → List (List ℕ) → Result Form FormFault
+unfoldable pub run : Shape → Position → List (List ℕ) → Result Form FormFault
 run (done f) at [] = Ok f
 run (done f) at (p ∷ ps) = Err (misplaced at p)
 run (next fits then) at [] = Err (Unexpected at)
-run (next fits then) at (p ∷ ps) = cond (lawful p && fits p) (run (then p) (onward at (length p)) ps) (Err (misplaced at p))
+run (next fits then) at (p ∷ ps) = cond (lawful p && fits p) (run (then p) (bytes_on at (length p)) ps) (Err (misplaced at p))
 
 -- Each part of a form takes what is read behind it: k is told the part's value.
 -- a token of given bytes
@@ -77,8 +77,8 @@ line k =
 abbrev pub announce : (Form → Shape) → Shape
 announce k = field (codes "counter") (λ c. field (codes "tag") (λ t. word (codes ")") (λ _. k (Announce c t))))
 
-abbrev pub opening : (Form → Shape) → Shape
-opening k =
+abbrev pub open_command : (Form → Shape) → Shape
+open_command k =
     field (codes "counter") (λ c. field (codes "case") (λ n. field (codes "vote") (λ v.
     word (codes ")") (λ _. k (Opening c n v)))))
 
@@ -119,7 +119,7 @@ abbrev pub named : (Form → Shape) → List ℕ → Shape
 named k p =
     cond (bytes_eq p (codes "line")) (line k)
     (cond (bytes_eq p (codes "announce")) (announce k)
-    (cond (bytes_eq p (codes "open")) (opening k)
+    (cond (bytes_eq p (codes "open")) (open_command k)
     (cond (bytes_eq p (codes "forge")) (forge k)
     (cond (bytes_eq p (codes "deliver")) (deliver k) (advance k)))))
 

@@ -1,7 +1,7 @@
 ghost use Rattle.std.specs.Prelude.{◌≡◌};
 ghost use Rattle.grammar.specs.declared.fault.FormFault.TheVariants.{Token};
 
-use token::{Place, TokenFault};
+use token::{Position, TokenFault};
 
 /// Why a line is no form, told of its first token that does not fit. A token that is not lawful is
 /// told as such.
@@ -11,7 +11,7 @@ pub enum FormFault {
     Token(TokenFault),
     /// A lawful token that no form has here, by the place of its first byte; or, by the place one
     /// past the last byte, the end of the line where a form goes on.
-    Unexpected(Place),
+    Unexpected(Position),
 }
 
 impl From<TokenFault> for FormFault {

@@ -4,14 +4,14 @@ ghost use Rattle.grammar.specs.Reads.{Pulled, Reads, Ends};
 
 use crate::fault::FormFault;
 use form::Form;
-use token::{Cursor, Place, Token};
+use token::{Cursor, Position, Token};
 
 /// A token that was taken from a line.
 #[derive(Clone, Copy, Debug, PartialEq, Eq)]
 pub struct Found<'a> {
     pub token: Token<'a>,
     /// Where its first byte stands.
-    pub place: Place,
+    pub place: Position,
 }
 
 /// Takes the next token. A token that is not lawful is a fault and stays; the end of the line is a

@@ -1,6 +1,6 @@
 // A case about the item, from its opening to its end.
 use crate::story::{ALL, FAULTY, OLDEST, SECOND_OLDEST, Story};
-use crate::words::Told;
+use crate::words::InWords;
 use anyhow::Context;
 use carrier::Carrier;
 use coin::WordCoin;
@@ -72,7 +72,7 @@ impl<'a, R: Print, C: Carrier> Story<'a, R, C> {
                 CASE,
                 ballot.number(),
             )?;
-            let name = Told(ballot);
+            let name = InWords(ballot);
             println!(self.rt; "counter {process} opens case {CASE} with {name}, sends {sent}")?;
         }
         Ok(())
@@ -86,9 +86,9 @@ impl<'a, R: Print, C: Carrier> Story<'a, R, C> {
                 round,
             };
             self.forge(addressee, step, subject, ballot.number())?;
-            let what = Told(step);
-            let about = Told(subject);
-            let name = Told(ballot);
+            let what = InWords(step);
+            let about = InWords(subject);
+            let name = InWords(ballot);
             println!(self.rt;
                 "counter {FAULTY} forges {what} to counter {addressee} about {about}: {name}"
             )?;
@@ -143,7 +143,7 @@ impl<'a, R: Print, C: Carrier> Story<'a, R, C> {
         for process in 0..FAULTY {
             let place = case_place(&self.line.plan(), process, CASE);
             let at = place.context("the plan has no such case")?;
-            let what = Told(self.memory.case_record(at).decision);
+            let what = InWords(self.memory.case_record(at).decision);
             println!(self.rt; "counter {process} decided {what}")?;
         }
         Ok(())

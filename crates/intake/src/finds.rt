@@ -1,6 +1,6 @@
 // Items, from their announcement to what each counter reads of them.
 use crate::story::{ALL, FAULTY, SECOND_OLDEST, Story};
-use crate::words::Told;
+use crate::words::InWords;
 use carrier::Carrier;
 use item::{Item, Record};
 use line::announce;
@@ -48,7 +48,7 @@ impl<'a, R: Print, C: Carrier> Story<'a, R, C> {
         )?;
         let serial = announced.serial;
         let sent = announced.posted;
-        let what = Told(record);
+        let what = InWords(record);
         println!(self.rt;
             "counter {process} announces item {process} {serial}, sends {sent}: {what}"
         )?;
@@ -59,8 +59,8 @@ impl<'a, R: Print, C: Carrier> Story<'a, R, C> {
         for (addressee, step, originator, serial, shelf) in FORGED {
             let subject = Subject::Item { originator, serial };
             self.forge(addressee, step, subject, violin(shelf)?.pack())?;
-            let what = Told(step);
-            let about = Told(subject);
+            let what = InWords(step);
+            let about = InWords(subject);
             println!(self.rt;
                 "counter {FAULTY} forges {what} to counter {addressee} about {about}, shelf {shelf}"
             )?;
@@ -96,9 +96,9 @@ impl<'a, R: Print, C: Carrier> Story<'a, R, C> {
     }
 
     fn read_record(&self, process: u64, subject: Subject) -> anyhow::Result<()> {
-        let about = Told(subject);
+        let about = InWords(subject);
         let reading = read::<Record>(&self.line, &self.memory, process, subject)?;
-        let what = Told(reading);
+        let what = InWords(reading);
         println!(self.rt; "counter {process} reads {about}: {what}")?;
         Ok(())
     }

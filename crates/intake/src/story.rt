@@ -1,5 +1,5 @@
 // Who tells the story, in which order, and what its parts share.
-use crate::words::{Said, Told};
+use crate::words::{Content, InWords};
 use anyhow::Context;
 use carrier::Carrier;
 use carriers::Watch;
@@ -98,9 +98,9 @@ impl<'a, R: Print, C: Carrier> Story<'a, R, C> {
     fn tell_delivered(&self, process: u64, delivered: Delivered) -> anyhow::Result<()> {
         let message = self.carrier.last().context("no message was taken")?;
         let sender = message.sender();
-        let what = Told(message.step());
-        let about = Told(message.subject());
-        let value = Told(Said::of(&message)?);
+        let what = InWords(message.step());
+        let about = InWords(message.subject());
+        let value = InWords(Content::of(&message)?);
         let sent = delivered.posted;
         let entered = if delivered.accepted { "it" } else { "nothing" };
         println!(self.rt;

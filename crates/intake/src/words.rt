@@ -8,9 +8,9 @@ use std::fmt;
 
 // A value of another crate, as the counters call it.
 #[derive(Clone, Copy)]
-pub(crate) struct Told<T>(pub(crate) T);
+pub(crate) struct InWords<T>(pub(crate) T);
 
-impl fmt::Display for Told<Subject> {
+impl fmt::Display for InWords<Subject> {
     fn fmt<W: fmt::Write>(&self, f: &mut fmt::Formatter<W>) -> fmt::Result {
         match self.0 {
             Subject::Item { originator, serial } => write!(f, "item {originator} {serial}"),
@@ -24,7 +24,7 @@ impl fmt::Display for Told<Subject> {
 }
 
 // Field by field.
-impl fmt::Display for Told<Record> {
+impl fmt::Display for InWords<Record> {
     fn fmt<W: fmt::Write>(&self, f: &mut fmt::Formatter<W>) -> fmt::Result {
         let kind = self.0.kind();
         let colour = self.0.colour();
@@ -38,29 +38,29 @@ impl fmt::Display for Told<Record> {
     }
 }
 
-impl fmt::Display for Told<Reading<Record>> {
+impl fmt::Display for InWords<Reading<Record>> {
     fn fmt<W: fmt::Write>(&self, f: &mut fmt::Formatter<W>) -> fmt::Result {
         match &self.0 {
             Reading::Nothing => f.write_str("nothing"),
             Reading::Unreadable => f.write_str("unreadable"),
-            Reading::Value(record) => Told(*record).fmt(f),
+            Reading::Value(record) => InWords(*record).fmt(f),
         }
     }
 }
 
-impl fmt::Display for Told<Option<Decision>> {
+impl fmt::Display for InWords<Option<Decision>> {
     fn fmt<W: fmt::Write>(&self, f: &mut fmt::Formatter<W>) -> fmt::Result {
         match self.0 {
             None => f.write_str("nothing"),
             Some(Decision { side, phase }) => {
-                let name = Told(side);
+                let name = InWords(side);
                 write!(f, "{name} in phase {phase}")
             }
         }
     }
 }
 
-impl fmt::Display for Told<Side> {
+impl fmt::Display for InWords<Side> {
     fn fmt<W: fmt::Write>(&self, f: &mut fmt::Formatter<W>) -> fmt::Result {
         f.write_str(match self.0 {
             Side::Keep => "keep",
@@ -69,7 +69,7 @@ impl fmt::Display for Told<Side> {
     }
 }
 
-impl fmt::Display for Told<Ballot> {
+impl fmt::Display for InWords<Ballot> {
     fn fmt<W: fmt::Write>(&self, f: &mut fmt::Formatter<W>) -> fmt::Result {
         f.write_str(match self.0 {
             Ballot::Keep => "keep",
@@ -81,7 +81,7 @@ impl fmt::Display for Told<Ballot> {
     }
 }
 
-impl fmt::Display for Told<Step> {
+impl fmt::Display for InWords<Step> {
     fn fmt<W: fmt::Write>(&self, f: &mut fmt::Formatter<W>) -> fmt::Result {
         f.write_str(match self.0 {
             Step::Initial => "an initial",
@@ -94,31 +94,31 @@ impl fmt::Display for Told<Step> {
 // What a message says: of an item's record its shelf, since the records of this story differ in
 // nothing else, or a ballot.
 #[derive(Clone, Copy)]
-pub(crate) enum Said {
+pub(crate) enum Content {
     Shelf(u64),
     Ballot(Ballot),
 }
 
-impl Said {
-    pub(crate) fn of(message: &Message) -> anyhow::Result<Said> {
+impl Content {
+    pub(crate) fn of(message: &Message) -> anyhow::Result<Content> {
         match message.subject() {
             Subject::Item { .. } => {
                 let record = Record::unpack(message.body()).context("no record has this body")?;
-                Ok(Said::Shelf(record.shelf()))
+                Ok(Content::Shelf(record.shelf()))
             }
             Subject::Ballot { .. } => {
                 let ballot = Ballot::unpack(message.body()).context("no ballot has this body")?;
-                Ok(Said::Ballot(ballot))
+                Ok(Content::Ballot(ballot))
             }
         }
     }
 }
 
-impl fmt::Display for Told<Said> {
+impl fmt::Display for InWords<Content> {
     fn fmt<W: fmt::Write>(&self, f: &mut fmt::Formatter<W>) -> fmt::Result {
         match self.0 {
-            Said::Shelf(shelf) => write!(f, "shelf {shelf}"),
-            Said::Ballot(ballot) => Told(ballot).fmt(f),
+            Content::Shelf(shelf) => write!(f, "shelf {shelf}"),
+            Content::Ballot(ballot) => InWords(ballot).fmt(f),
         }
     }
 }

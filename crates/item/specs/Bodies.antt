@@ -1,10 +1,10 @@
--- Bodies are read as what they were packed from. Assumes nothing.
+-- Bodies are read as what they were packed from.
 use Rattle.std.proofs.Common.{ap, arith}
 use Rattle.std.proofs.lemmas.Nat.{shr-shr}
 use Rattle.std.specs.Result.{result_ok}
 use Rattle.item.specs.Laws.{Faithful}
 use Rattle.item.specs.Records.{body_of, record_in}
-use Rattle.item.specs.Tags.{number_of, tag_in}
+use Rattle.item.specs.Tags.{tag_body, tag_in}
 use Rattle.item.specs.Made.{good_part, recorded_at, recorded_fields, tagged_of, tagged_number}
 
 pub record_faithful : Faithful (λ _. Unit {0}) body_of record_in
@@ -23,7 +23,7 @@ record_faithful =
       sound = λ b r lt e. let f = recorded_fields _ _ _ _ _ r (good_part _ r e) in (tt, omega (arith, shr-shr b 16 16, shr-shr b 32 16, shr-shr b 48 8));
     }
 
-pub tag_faithful : Faithful (λ _. Unit {0}) number_of tag_in
+pub tag_faithful : Faithful (λ _. Unit {0}) tag_body tag_in
 tag_faithful =
     record {
       within = λ t _. omega arith;

@@ -1,4 +1,4 @@
--- What ties reading a body to packing a value. Assumes nothing.
+-- What ties reading a body to packing a value.
 use Rattle.std.specs.Prelude.{◌≡◌, ℕ, ◌^◌, ◌<◌, Some, Option}
 
 -- A body, a number of 64 bits, is read as a value exactly if it is what that value packs to.

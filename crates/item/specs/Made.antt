@@ -1,4 +1,4 @@
--- When numbers make a record or a tag, and when two of them are equal. Assumes nothing.
+-- When numbers make a record or a tag, and when two of them are equal.
 use Rattle.std.specs.Prelude.{◌≡◌, ℕ, ◌≤◌, Bool, true, false, Some, Ok, Err, Result}
 use Rattle.std.proofs.Math.Path.{refl}
 use Rattle.std.proofs.Common.{sym, ap, ◌∙◌, arith}
@@ -8,7 +8,7 @@ use Rattle.std.proofs.lemmas.Bool.{and_from, le-leb, true≢false}
 use Rattle.std.specs.Result.{result_ok}
 use Rattle.item.specs.declared.records.Record.{Record}
 use Rattle.item.specs.declared.tags.Tag.{Tag}
-use Rattle.item.specs.Records.{in_range, made_if, recorded}
+use Rattle.item.specs.Records.{fields_in_range, record_if, recorded}
 use Rattle.item.specs.Tags as tags
 
 -- a result whose good part is there is that part
@@ -34,7 +34,7 @@ same_record p q kind colour station day shelf = λ i.
     }
 
 -- the fields of a record are in range
-record_in_range : (r : Record) → in_range r.kind r.colour r.station r.day r.shelf ≡ true
+record_in_range : (r : Record) → fields_in_range r.kind r.colour r.station r.day r.shelf ≡ true
 record_in_range r =
     and_from _ _ (and_from _ _ (le-leb 1 r.kind r.first) (le-leb r.kind 40 r.last))
     (and_from _ _ (le-leb r.colour 11 r.coloured)
@@ -43,8 +43,8 @@ record_in_range r =
 -- a record is what its fields make
 pub recorded_of : (r : Record) → recorded r.kind r.colour r.station r.day r.shelf ≡ Ok r
 unfolding recorded
-recorded_of r = go (in_range r.kind r.colour r.station r.day r.shelf) refl where
-  go : (b : Bool) (e : in_range r.kind r.colour r.station r.day r.shelf ≡ b) → made_if r.kind r.colour r.station r.day r.shelf b e ≡ Ok r
+recorded_of r = go (fields_in_range r.kind r.colour r.station r.day r.shelf) refl where
+  go : (b : Bool) (e : fields_in_range r.kind r.colour r.station r.day r.shelf ≡ b) → record_if r.kind r.colour r.station r.day r.shelf b e ≡ Ok r
   go true e = ap Ok (same_record _ r refl refl refl refl refl)
   go false e = absurd (true≢false (sym (record_in_range r) ∙ e))
 
@@ -59,8 +59,8 @@ module _ (kind colour station day shelf : ℕ) where
 
   pub recorded_fields : (r : Record) → recorded kind colour station day shelf ≡ Ok r → Fields r
   unfolding recorded
-  recorded_fields r h = go (in_range kind colour station day shelf) refl h where
-    go : (b : Bool) (e : in_range kind colour station day shelf ≡ b) → made_if kind colour station day shelf b e ≡ Ok r → Fields r
+  recorded_fields r h = go (fields_in_range kind colour station day shelf) refl h where
+    go : (b : Bool) (e : fields_in_range kind colour station day shelf ≡ b) → record_if kind colour station day shelf b e ≡ Ok r → Fields r
     go true e made = record { kind_is = cc; colour_is = cc; station_is = cc; day_is = cc; shelf_is = cc }
     go false e made = let z : ◌≡◌ {A = ℕ} 0 1 = cc in absurd (omega arith)
 
@@ -80,15 +80,15 @@ same_tag s t number = λ i.
 -- a tag is what its number makes
 pub tagged_of : (t : Tag) → tags.tagged t.number ≡ Ok t
 unfolding tags.tagged
-tagged_of t = go (tags.in_range t.number) refl where
-  go : (b : Bool) (e : tags.in_range t.number ≡ b) → tags.made_if t.number b e ≡ Ok t
+tagged_of t = go (tags.tag_in_range t.number) refl where
+  go : (b : Bool) (e : tags.tag_in_range t.number ≡ b) → tags.tag_if t.number b e ≡ Ok t
   go true e = ap Ok (same_tag _ t refl)
   go false e = absurd (true≢false (sym (and_from _ _ (le-leb 1 t.number t.first) (le-leb t.number 999999 t.last)) ∙ e))
 
 -- the number of a tag is the one that it was made of
 pub tagged_number : (n : ℕ) (t : Tag) → tags.tagged n ≡ Ok t → n ≡ t.number
 unfolding tags.tagged
-tagged_number n t h = go (tags.in_range n) refl h where
-  go : (b : Bool) (e : tags.in_range n ≡ b) → tags.made_if n b e ≡ Ok t → n ≡ t.number
+tagged_number n t h = go (tags.tag_in_range n) refl h where
+  go : (b : Bool) (e : tags.tag_in_range n ≡ b) → tags.tag_if n b e ≡ Ok t → n ≡ t.number
   go true e made = cc
   go false e made = let z : ◌≡◌ {A = ℕ} 0 1 = cc in absurd (omega arith)

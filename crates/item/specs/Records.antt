@@ -1,4 +1,4 @@
--- Which numbers make a record, and the body of one. Assumes nothing.
+-- Which numbers make a record, and the body of one.
 use Rattle.std.specs.Prelude.{◌≡◌, ℕ, ◌+◌, ◌*◌, ◌/◌, ◌%◌, ◌^◌, Bool, true, false, ◌&&◌, Ok, Err, Option, Result, nat_le, refl}
 use Rattle.std.proofs.lemmas.Bool.{and_parts, leb-true}
 use Rattle.std.specs.Result.{result_ok}
@@ -7,14 +7,14 @@ use Rattle.protocol.specs.declared.refusals.Refusal.TheVariants.{ValueOutOfRange
 use Rattle.item.specs.declared.records.Record.{Record}
 
 -- kinds 1 to 40, colours up to 11, and 16 bits for each of the others
-abbrev pub in_range : ℕ → ℕ → ℕ → ℕ → ℕ → Bool
-in_range kind colour station day shelf =
+abbrev pub fields_in_range : ℕ → ℕ → ℕ → ℕ → ℕ → Bool
+fields_in_range kind colour station day shelf =
     (nat_le 1 kind && nat_le kind 40) && (nat_le colour 11 && (nat_le station 65535 && (nat_le day 65535 && nat_le shelf 65535)))
 
 module _ (kind colour station day shelf : ℕ) where
-  abbrev pub made_if : (b : Bool) → in_range kind colour station day shelf ≡ b → Result Record Refusal
-  made_if false e = Err ValueOutOfRange
-  made_if true e =
+  abbrev pub record_if : (b : Bool) → fields_in_range kind colour station day shelf ≡ b → Result Record Refusal
+  record_if false e = Err ValueOutOfRange
+  record_if true e =
       let a = and_parts _ _ e in
       let k = and_parts _ _ a.0 in
       let b = and_parts _ _ a.1 in
@@ -36,7 +36,7 @@ module _ (kind colour station day shelf : ℕ) where
 
   -- the record of these numbers, if they make one
   unfoldable pub recorded : Result Record Refusal
-  recorded = made_if (in_range kind colour station day shelf) refl
+  recorded = record_if (fields_in_range kind colour station day shelf) refl
 
 -- highest first, in 8, 8, 16, 16 and 16 bits
 abbrev pub body_of : Record → ℕ

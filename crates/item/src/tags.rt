@@ -38,14 +38,14 @@ impl Tag {
 }
 
 impl Item for Tag {
-    ghost use Rattle.item.specs.Tags.{number_of, tag_in};
+    ghost use Rattle.item.specs.Tags.{tag_body, tag_in};
     ghost use Rattle.item.specs.Bodies.{tag_faithful};
 
     ghost unpacked = { tag_in };
 
     ghost ok = { λ _. Unit {0} };
 
-    ghost packed = { number_of };
+    ghost packed = { tag_body };
 
     ghost faithful = { tag_faithful };
 

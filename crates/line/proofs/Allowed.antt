@@ -1,4 +1,4 @@
--- Why forging is refused, test by test. Assumes nothing.
+-- Why forging is refused, test by test.
 use Rattle.std.proofs.Common.{◌≡◌, ℕ, ◌≤◌, ltb, List, Some, Option, sym, ap, ◌∙◌}
 use Rattle.std.proofs.lemmas.Bool.{cond-false, le-ltb}
 use Rattle.protocol.specs.declared.messages.Message.{Message}

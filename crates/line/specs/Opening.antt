@@ -1,4 +1,4 @@
--- What opening does, and what is promised from then on. Assumes nothing.
+-- What opening does, and what is promised from then on.
 use Rattle.std.specs.Prelude.{◌≡◌, ℕ, List, [], length, Some, None, Ok, Err, Option, Result, ◌==◌}
 use Rattle.protocol.specs.declared.messages.Message.{Message}
 use Rattle.protocol.specs.declared.refusals.Refusal.{Refusal}

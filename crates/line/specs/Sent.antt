@@ -1,4 +1,4 @@
--- What sending does to a carrier. Assumes nothing.
+-- What sending does to a carrier.
 use Rattle.std.specs.Prelude.{◌≡◌, ℕ, ◌+◌, ◌≤◌, List, ◌++◌, length}
 use Rattle.protocol.specs.Bags.{Same}
 use Rattle.protocol.specs.declared.messages.Message.{Message}

@@ -1,4 +1,4 @@
--- Counting the entries of a list, and the places that have them. Assumes nothing.
+-- Counting the entries of a list, and the places that have them.
 use Rattle.std.proofs.Common.{◌≡◌, ℕ, zero, suc, ◌≤◌, Bool, cond, List, length, get_or, take, count_by, refl, add-one, arith}
 use Rattle.std.proofs.lemmas.List.Sums.{sum_by_more}
 use Rattle.std.proofs.lemmas.List.{take_all}

@@ -1,4 +1,4 @@
--- All places are among those that the plan needs, and no two things share one. Assumes nothing.
+-- All places are among those that the plan needs, and no two things share one.
 use Rattle.std.proofs.Common.{◌≡◌, ℕ, ◌+◌, ◌-◌, ◌*◌, ◌/◌, ◌%◌, ◌<◌, ◌≤◌, true, sym, ap, ◌∙◌, mul_assoc, mul_comm, add-mul, mul-add, arith}
 use Rattle.std.proofs.lemmas.Nat.{mul-add-lt, div-mul-add, mod-mul-add, mul-le}
 use Rattle.std.proofs.lemmas.Bool.Decides.{nat_tests}
@@ -7,7 +7,7 @@ use Rattle.protocol.specs.declared.messages.Subject.{Subject}
 use Rattle.protocol.specs.declared.messages.Subject.TheVariants.{Item, Ballot}
 use Rattle.plan.specs.declared.plans.Plan.{Plan}
 use Rattle.plan.specs.Plans.{subjects}
-use Rattle.memory.specs.Places.{within, number, place, echoes, readies, Laid}
+use Rattle.memory.specs.Places.{within, subject_number, record_place, echoes, readies, Laid}
 
 -- row and column are found again from a place
 grid_apart : (w a b c d : ℕ) → b < w → d < w → a * w + b ≡ c * w + d → (a ≡ c) × (b ≡ d)
@@ -28,13 +28,13 @@ module _ (plan : Plan) where
   originator_below (Item i k) h = (item_within i k h).0
   originator_below (Ballot i c r) h = (ballot_within i c r h).0
 
-  number_below : (s : Subject) → within plan s ≡ true → number plan s < subjects plan
+  number_below : (s : Subject) → within plan s ≡ true → subject_number plan s < subjects plan
   number_below (Item i k) h = omega (arith, (item_within i k h).1)
   number_below (Ballot i c r) h =
       let w = ballot_within i c r h in
       omega (arith, mul-add-lt c (3 * plan.phases) (r - 1) plan.cases w.1 (omega arith))
 
-  number_apart : (s z : Subject) → within plan s ≡ true → within plan z ≡ true → originator_of s ≡ originator_of z → number plan s ≡ number plan z → s ≡ z
+  number_apart : (s z : Subject) → within plan s ≡ true → within plan z ≡ true → originator_of s ≡ originator_of z → subject_number plan s ≡ subject_number plan z → s ≡ z
   number_apart (Item i k) (Item j l) h g from e = λ m. Item (from m) (e m)
   number_apart (Item i k) (Ballot j d u) h g from e = let w = item_within i k h in absurd (omega arith)
   number_apart (Ballot i c r) (Item j l) h g from e = let w = item_within j l g in absurd (omega arith)
@@ -51,14 +51,14 @@ module _ (plan : Plan) where
       mul-le (plan.n * plan.n) (subjects plan) 256 416 (mul-le plan.n plan.n 16 16 plan.few plan.few)
       (omega (arith, plan.numbered, mul-le (3 * plan.phases) plan.cases 48 8 (omega (arith, plan.last)) plan.listed))
 
-  pub inside : (i : ℕ) (s : Subject) → i < plan.n → within plan s ≡ true → place plan i s < plan.n * plan.n * subjects plan
+  pub inside : (i : ℕ) (s : Subject) → i < plan.n → within plan s ≡ true → record_place plan i s < plan.n * plan.n * subjects plan
   inside i s lt h =
       let row = mul-add-lt i plan.n (originator_of s) plan.n lt (originator_below s h) in
-      omega (arith, mul-add-lt (i * plan.n + originator_of s) (subjects plan) (number plan s) (plan.n * plan.n) row (number_below s h), mul_comm (subjects plan) (plan.n * plan.n))
+      omega (arith, mul-add-lt (i * plan.n + originator_of s) (subjects plan) (subject_number plan s) (plan.n * plan.n) row (number_below s h), mul_comm (subjects plan) (plan.n * plan.n))
 
-  apart : (i j : ℕ) (s z : Subject) → i < plan.n → j < plan.n → within plan s ≡ true → within plan z ≡ true → place plan i s ≡ place plan j z → (i ≡ j) × (s ≡ z)
+  apart : (i j : ℕ) (s z : Subject) → i < plan.n → j < plan.n → within plan s ≡ true → within plan z ≡ true → record_place plan i s ≡ record_place plan j z → (i ≡ j) × (s ≡ z)
   apart i j s z p q h g e =
-      let rows = grid_apart (subjects plan) _ (number plan s) _ (number plan z) (number_below s h) (number_below z g) e in
+      let rows = grid_apart (subjects plan) _ (subject_number plan s) _ (subject_number plan z) (number_below s h) (number_below z g) e in
       let ends = grid_apart plan.n i (originator_of s) j (originator_of z) (originator_below s h) (originator_below z g) rows.0 in
       (ends.0, number_apart s z h g ends.1 rows.1)
 

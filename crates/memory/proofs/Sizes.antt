@@ -1,4 +1,4 @@
--- How long the parts of a memory are that is large enough. Assumes nothing.
+-- How long the parts of a memory are that is large enough.
 use Rattle.std.proofs.Common.{◌≡◌, ◌≤◌, true, length, arith}
 use Rattle.std.proofs.lemmas.Bool.Decides.{nat_tests}
 use Rattle.plan.specs.Plans.{needs_of}

@@ -1,4 +1,4 @@
--- The front of a list is overwritten, the rest stays. Assumes nothing.
+-- The front of a list is overwritten, the rest stays.
 use Rattle.std.proofs.Common.{◌≡◌, ℕ, zero, suc, ◌+◌, ◌<◌, min, List, [], ◌∷◌, ◌++◌, length, take, drop, get_or, set, sym, refl, ap, ◌∙◌, add-one, arith}
 use Rattle.memory.specs.Contents.{wiped}
 

@@ -1,4 +1,4 @@
--- What a memory holds, and what its places hold after a change. Assumes nothing.
+-- What a memory holds, and what its places hold after a change.
 use Rattle.std.specs.Prelude.{ℕ, zero, suc, List, [], ◌∷◌, Some, None, Option, slice_index, slice_index_or, slice_set}
 use Rattle.plan.specs.declared.plans.Plan.{Plan}
 use Rattle.plan.specs.Plans.{needs_of}

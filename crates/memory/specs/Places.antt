@@ -1,4 +1,4 @@
--- Where memory keeps what a process knows of a subject and of a case. Assumes nothing.
+-- Where memory keeps what a process knows of a subject and of a case.
 use Rattle.std.specs.Prelude.{◌≡◌, ℕ, ◌+◌, ◌-◌, ◌*◌, ◌<◌, Bool, true, cond, ◌&&◌, length, Some, None, Option, ◌≢◌, nat_le, nat_lt}
 use Rattle.protocol.specs.Messages.{originator_of}
 use Rattle.protocol.specs.declared.messages.Subject.{Subject}
@@ -23,17 +23,17 @@ within plan (Ballot i c r) = nat_lt i plan.n && (nat_lt c plan.cases && (nat_le 
 
 -- the number of a subject among those of its originator: the items, and then the rounds of case
 -- after case
-abbrev pub number : Plan → Subject → ℕ
-number plan (Item i k) = k
-number plan (Ballot i c r) = plan.serials + rounds plan * c + (r - 1)
+abbrev pub subject_number : Plan → Subject → ℕ
+subject_number plan (Item i k) = k
+subject_number plan (Ballot i c r) = plan.serials + rounds plan * c + (r - 1)
 
 -- the broadcast record that process i keeps of a subject
-abbrev pub place : Plan → ℕ → Subject → ℕ
-place plan i subject = (i * plan.n + originator_of subject) * subjects plan + number plan subject
+abbrev pub record_place : Plan → ℕ → Subject → ℕ
+record_place plan i subject = (i * plan.n + originator_of subject) * subjects plan + subject_number plan subject
 
 -- the body that the record of process i has as accepted for a subject
 abbrev pub body_at : Plan → Held → ℕ → Subject → Option ℕ
-body_at plan h i s = accepted_body (stage_at h (place plan i s))
+body_at plan h i s = accepted_body (stage_at h (record_place plan i s))
 
 -- where record k keeps the echo and the ready of process 0; the sender's number is added
 abbrev pub echoes : Plan → ℕ → ℕ
@@ -43,12 +43,12 @@ abbrev pub readies : Plan → ℕ → ℕ
 readies plan k = 2 * plan.n * k + plan.n
 
 -- the places of record k
-abbrev pub placed : Plan → ℕ → Place
-placed plan k = record { «record» = k; echoes = echoes plan k; readies = readies plan k }
+abbrev pub record_places : Plan → ℕ → Place
+record_places plan k = record { «record» = k; echoes = echoes plan k; readies = readies plan k }
 
 -- the places of the record of a subject, if the plan has process and subject
 abbrev pub place_of : Plan → ℕ → Subject → Option Place
-place_of plan i subject = cond (nat_lt i plan.n && within plan subject) (Some (placed plan (place plan i subject))) None
+place_of plan i subject = cond (nat_lt i plan.n && within plan subject) (Some (record_places plan (record_place plan i subject))) None
 
 -- the case record that process i keeps of case c
 abbrev pub case_place : Plan → ℕ → ℕ → ℕ
@@ -60,8 +60,8 @@ case_place_of plan i c = cond (nat_lt i plan.n && nat_lt c plan.cases) (Some (ca
 
 -- all places are among those that the plan needs, and no two things share one
 pub record Laid (plan : Plan) : Type 0 where
-  pub inside : (i : ℕ) (s : Subject) → i < plan.n → within plan s ≡ true → place plan i s < (needs_of plan).broadcast_records
-  pub apart : (i j : ℕ) (s z : Subject) → i < plan.n → j < plan.n → within plan s ≡ true → within plan z ≡ true → place plan i s ≡ place plan j z → (i ≡ j) × (s ≡ z)
+  pub inside : (i : ℕ) (s : Subject) → i < plan.n → within plan s ≡ true → record_place plan i s < (needs_of plan).broadcast_records
+  pub apart : (i j : ℕ) (s z : Subject) → i < plan.n → j < plan.n → within plan s ≡ true → within plan z ≡ true → record_place plan i s ≡ record_place plan j z → (i ≡ j) × (s ≡ z)
   pub echo_inside : (k j : ℕ) → k < (needs_of plan).broadcast_records → j < plan.n → echoes plan k + j < (needs_of plan).body_places
   pub ready_inside : (k j : ℕ) → k < (needs_of plan).broadcast_records → j < plan.n → readies plan k + j < (needs_of plan).body_places
   pub echo_apart : (k l i j : ℕ) → i < plan.n → j < plan.n → echoes plan k + i ≡ echoes plan l + j → (k ≡ l) × (i ≡ j)

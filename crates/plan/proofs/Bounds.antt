@@ -1,11 +1,11 @@
--- When numbers make a plan, and when two plans are equal. Assumes nothing.
+-- When numbers make a plan, and when two plans are equal.
 use Rattle.std.proofs.Common.{◌≡◌, ℕ, suc, ◌*◌, ◌<◌, ◌≤◌, Bool, true, false, Ok, Err, sym, refl, ap, ◌∙◌, arith}
 use mathlib.Core.HLevel.{is_prop→PathP}
 use native.Mathlib.Bridge.{le_prop}
 use Rattle.std.proofs.lemmas.Bool.{and_from, le-leb, lt-ltb, true≢false}
 use Rattle.protocol.specs.declared.refusals.Refusal.TheVariants.{PlanOutOfRange}
 use Rattle.plan.specs.declared.plans.Plan.{Plan}
-use Rattle.plan.specs.Plans.{legal, planned, made_if}
+use Rattle.plan.specs.Plans.{legal, planned, plan_if}
 
 -- the numbers of a plan are legal
 pub plan_legal : (plan : Plan) → legal plan.n plan.t plan.serials plan.cases plan.phases ≡ true
@@ -36,7 +36,7 @@ same_plan p q n t serials cases phases = λ i.
 pub planned_of : (plan : Plan) → planned plan.n plan.t plan.serials plan.cases plan.phases ≡ Ok plan
 unfolding planned
 planned_of plan = go (legal plan.n plan.t plan.serials plan.cases plan.phases) refl where
-  go : (b : Bool) (e : legal plan.n plan.t plan.serials plan.cases plan.phases ≡ b) → made_if plan.n plan.t plan.serials plan.cases plan.phases b e ≡ Ok plan
+  go : (b : Bool) (e : legal plan.n plan.t plan.serials plan.cases plan.phases ≡ b) → plan_if plan.n plan.t plan.serials plan.cases plan.phases b e ≡ Ok plan
   go true e = ap Ok (same_plan _ plan refl refl refl refl refl)
   go false e = absurd (true≢false (sym (plan_legal plan) ∙ e))
 
@@ -44,6 +44,6 @@ planned_of plan = go (legal plan.n plan.t plan.serials plan.cases plan.phases) r
 pub planned_not : (n t serials cases phases : ℕ) → legal n t serials cases phases ≡ false → planned n t serials cases phases ≡ Err PlanOutOfRange
 unfolding planned
 planned_not n t serials cases phases h = go (legal n t serials cases phases) refl where
-  go : (b : Bool) (e : legal n t serials cases phases ≡ b) → made_if n t serials cases phases b e ≡ Err PlanOutOfRange
+  go : (b : Bool) (e : legal n t serials cases phases ≡ b) → plan_if n t serials cases phases b e ≡ Err PlanOutOfRange
   go true e = absurd (true≢false (sym e ∙ h))
   go false e = refl

@@ -1,4 +1,4 @@
--- Laws of a set that is kept as the bits of a number. Assumes nothing.
+-- Laws of a set that is kept as the bits of a number.
 use Rattle.std.proofs.Common.{◌≡◌, ℕ, zero, suc, ◌+◌, ◌*◌, ◌/◌, ◌%◌, ◌^◌, ◌<◌, ◌≤◌, Bool, true, false, cond, max, ◌||◌, eqb, sym, ap, ◌∙◌, ⊎_elim, mod-lt, div-lt_iff_lt-mul, pow-suc, pow_pos, lit<, arith}
 use native.Mathlib.Nat.{div_self, mod_self}
 use lib.Bits.{bit_or, or_lt, or_shr, or_mod, or_shifted, or_zero_r}

@@ -1,4 +1,4 @@
--- A test of all pairs n, t with n ≤ 16 and 3t < n, which antt computes. Assumes nothing.
+-- A test of all pairs n, t with n ≤ 16 and 3t < n, which antt computes.
 use Rattle.std.proofs.Common.{◌≡◌, ℕ, zero, suc, ◌*◌, ◌<◌, ◌≤◌, Bool, true, cond, ◌&&◌, ltb, sym, ap, ◌∙◌, ⊎_elim, arith}
 use Rattle.std.proofs.lemmas.Bool.{and_parts, cases_eq, cond-true, lt-ltb}
 

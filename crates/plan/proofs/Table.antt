@@ -1,4 +1,4 @@
--- The sheet's rule at each of its rows, by tests that antt computes. Assumes nothing.
+-- The sheet's rule at each of its rows, by tests that antt computes.
 use Rattle.std.proofs.Common.{◌≡◌, ℕ, zero, suc, ◌+◌, ◌-◌, ◌*◌, ◌/◌, ◌<◌, ◌≤◌, Bool, true, ◌&&◌, eqb, ltb, leb, List, [], ◌∷◌, ◌++◌, get_or, sym, refl, subst}
 use Rattle.std.proofs.lemmas.Bool.{and_parts, eqb-true, ltb-true, leb-true}
 use Rattle.protocol.specs.Thresholds.{Sound}

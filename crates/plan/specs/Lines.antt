@@ -1,4 +1,4 @@
--- What a draft becomes when it is opened. Assumes nothing.
+-- What a draft becomes when it is opened.
 use Rattle.std.specs.Prelude.{◌≡◌, ◌≤◌}
 use Rattle.protocol.specs.Counting.{below}
 use Rattle.plan.specs.Marks.{marked}

@@ -1,4 +1,4 @@
--- The set of processes that are marked faulty, as the bits of a number. Assumes nothing.
+-- The set of processes that are marked faulty, as the bits of a number.
 use Rattle.std.specs.Prelude.{◌≡◌, ℕ, ◌^◌, Bool, cond, ◌&&◌, ◌||◌, is_ok, Ok, Err, Result, ◌==◌, bit_or, count_ones, nat_le}
 use Rattle.std.specs.Int.{bit_at}
 use Rattle.protocol.specs.declared.refusals.Refusal.{Refusal}

@@ -1,4 +1,4 @@
--- Which numbers make a plan, and the memory that it needs. Assumes nothing.
+-- Which numbers make a plan, and the memory that it needs.
 use Rattle.std.specs.Prelude.{◌≡◌, ℕ, ◌+◌, ◌-◌, ◌*◌, Bool, true, false, ◌&&◌, Ok, Err, Result, nat_le, nat_lt, refl}
 use Rattle.std.proofs.lemmas.Bool.{and_parts, leb-true, ltb-true}
 use Rattle.protocol.specs.declared.refusals.Refusal.{Refusal}
@@ -13,9 +13,9 @@ legal n t serials cases phases =
     (nat_le 1 n && nat_le n 16) && (nat_lt (3 * t) n && (nat_le serials 32 && (nat_le cases 8 && (nat_le 1 phases && nat_le phases 16))))
 
 module _ (n t serials cases phases : ℕ) where
-  abbrev pub made_if : (b : Bool) → legal n t serials cases phases ≡ b → Result Plan Refusal
-  made_if false e = Err PlanOutOfRange
-  made_if true e =
+  abbrev pub plan_if : (b : Bool) → legal n t serials cases phases ≡ b → Result Plan Refusal
+  plan_if false e = Err PlanOutOfRange
+  plan_if true e =
       let a = and_parts _ _ e in
       let b = and_parts _ _ a.1 in
       let c = and_parts _ _ b.1 in
@@ -37,7 +37,7 @@ module _ (n t serials cases phases : ℕ) where
 
   -- the plan of these numbers, if they make one
   unfoldable pub planned : Result Plan Refusal
-  planned = made_if (legal n t serials cases phases) refl
+  planned = plan_if (legal n t serials cases phases) refl
 
 -- how many rounds a case has, and how many subjects an originator: an item for each serial, a
 -- ballot for each round of each case

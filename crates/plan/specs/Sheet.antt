@@ -1,4 +1,4 @@
--- The thresholds of n processes of which t may be faulty. Assumes nothing.
+-- The thresholds of n processes of which t may be faulty.
 use Rattle.std.specs.Prelude.{ℕ, zero, suc, ◌+◌, ◌*◌, ◌/◌}
 use Rattle.plan.specs.declared.plans.Thresholds.{Thresholds}
 

@@ -24,13 +24,13 @@ pub struct Drafted;
 
 /// The state from the opening on.
 #[derive(Drop)]
-pub struct Opened;
+pub struct InUse;
 
 /// Where processes can still be marked. Opening uses the draft up.
 pub type Draft = Marked<Drafted>;
 
 /// What opening makes of a draft: the same plan and marks, which stay as they are.
-pub type Line = Marked<Opened>;
+pub type Line = Marked<InUse>;
 
 impl<S> Marked<S> {
     ghost use Rattle.plan.specs.Marks.{marked};

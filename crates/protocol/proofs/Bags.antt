@@ -1,4 +1,4 @@
--- Laws of bags of messages. Assumes nothing.
+-- Laws of bags of messages.
 use Rattle.std.proofs.Common.{◌≡◌, ◌+◌, Bool, true, cond, List, [], ◌∷◌, ◌++◌, length, sym, refl, arith}
 use Rattle.protocol.specs.declared.messages.Message.{Message}
 use Rattle.protocol.specs.Bags.{count, Same}

@@ -1,4 +1,4 @@
--- Laws of counting below a number. Assumes nothing.
+-- Laws of counting below a number.
 use Rattle.std.proofs.Common.{◌≡◌, ℕ, zero, suc, ◌+◌, ◌<◌, ◌≤◌, Bool, true, false, cond, refl, ap, ⊎_elim, arith}
 use Rattle.std.proofs.lemmas.Bool.{both_ways, cases_lt}
 use Rattle.protocol.specs.Counting.{below}

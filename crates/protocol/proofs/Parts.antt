@@ -1,4 +1,4 @@
--- When two messages are equal, and what the parts of a made one are. Assumes nothing.
+-- When two messages are equal, and what the parts of a made one are.
 use Rattle.std.proofs.Common.{◌≡◌, ℕ, suc, ◌<◌, Ok, sym, refl, mod-eq_of_lt}
 use mathlib.Core.HLevel.{is_prop→PathP}
 use native.Mathlib.Bridge.{le_prop}

@@ -1,4 +1,4 @@
--- The kind of a round by its remainder. Assumes nothing.
+-- The kind of a round by its remainder.
 use Rattle.std.proofs.Common.{◌≡◌, ℕ, zero, suc, ◌%◌, sym, ap, arith}
 use Rattle.protocol.specs.Phases.{kind}
 

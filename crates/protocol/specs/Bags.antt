@@ -1,4 +1,4 @@
--- Messages as a bag: repeats count, order does not. Assumes nothing.
+-- Messages as a bag: repeats count, order does not.
 use Rattle.std.specs.Prelude.{◌≡◌, ℕ, ◌+◌, Bool, cond, List, [], ◌∷◌, ◌==◌}
 use Rattle.protocol.specs.declared.messages.Message.{Message}
 

@@ -1,4 +1,4 @@
--- Counting processes. Assumes nothing.
+-- Counting processes.
 use Rattle.std.specs.Prelude.{ℕ, zero, suc, ◌+◌, Bool, cond}
 
 -- how many k below n pass the test

@@ -1,4 +1,4 @@
--- Who is correct, and when nothing is left to be delivered. Assumes nothing.
+-- Who is correct, and when nothing is left to be delivered.
 use Rattle.std.specs.Prelude.{◌≡◌, ℕ, ◌<◌, Bool, false, List}
 use Rattle.protocol.specs.declared.messages.Message.{Message}
 use Rattle.protocol.specs.Bags.{waiting_for}

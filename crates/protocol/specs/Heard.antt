@@ -1,4 +1,4 @@
--- What a process heard from one sender. Assumes nothing.
+-- What a process heard from one sender.
 use Rattle.std.specs.Prelude.{ℕ, Bool, false, Option, Some, None, ◌==◌}
 
 -- it heard something, and that is body b

@@ -1,4 +1,4 @@
--- What a message is made of. Assumes nothing.
+-- What a message is made of.
 use Rattle.std.specs.Prelude.{ℕ, ◌%◌, cond, ◌&&◌, Ok, Err, Result, nat_lt}
 use Rattle.std.proofs.Common.{mod-lt, lit<}
 use Rattle.protocol.specs.declared.messages.Message.{Message}

@@ -1,4 +1,4 @@
--- Ballots and their numbers. Assumes nothing.
+-- Ballots and their numbers.
 use Rattle.std.specs.Prelude.{◌≡◌, ℕ, cond, Some, None, Option, Result, ok_or, ◌==◌}
 use Rattle.protocol.specs.declared.refusals.Refusal.{Refusal}
 use Rattle.protocol.specs.declared.refusals.Refusal.TheVariants.{ValueOutOfRange}

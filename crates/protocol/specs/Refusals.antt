@@ -1,4 +1,4 @@
--- The number of each refusal, and the sentence that it is shown as. Assumes nothing.
+-- The number of each refusal, and the sentence that it is shown as.
 use Rattle.std.specs.Prelude.{ℕ, List, codes}
 use Rattle.protocol.specs.declared.refusals.Refusal.{Refusal}
 use Rattle.protocol.specs.declared.refusals.Refusal.TheVariants.{

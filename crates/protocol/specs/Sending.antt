@@ -1,4 +1,4 @@
--- Messages that a process sends to all. Assumes nothing.
+-- Messages that a process sends to all.
 use Rattle.std.specs.Prelude.{ℕ, zero, suc, List, [], ◌∷◌, ◌++◌}
 use Rattle.protocol.specs.declared.messages.Message.{Message}
 use Rattle.protocol.specs.declared.messages.Step.{Step}

@@ -1,4 +1,4 @@
--- What is asked of the numbers that make a process act. Assumes nothing.
+-- What is asked of the numbers that make a process act.
 use Rattle.std.specs.Prelude.{ℕ, ◌+◌, ◌-◌, ◌*◌, ◌<◌, ◌≤◌}
 
 -- What agreement rests on, where all weigh n and the faulty ones at most t: two echo quorums

@@ -1,5 +1,5 @@
 ghost use Rattle.std.specs.Prelude.{◌≡◌};
-ghost use Rattle.grammar.specs.Grammar.{reading, announce, opening, forge, deliver, advance, line, command, step, subject, item, ballot, mark, all_marks};
+ghost use Rattle.grammar.specs.Grammar.{reading, announce, open_command, forge, deliver, advance, line, command, step, subject, item, ballot, mark, all_marks};
 ghost use Rattle.grammar.specs.Exact.{Exact, Faults};
 ghost use Rattle.grammar.specs.Reads.{Reads};
 
@@ -19,7 +19,7 @@ fn read_announce(cursor: &mut Cursor<'_>) -> Result<Form, FormFault>
 }
 
 fn read_open(cursor: &mut Cursor<'_>) -> Result<Form, FormFault>
-    ensures { Reads cursor.old cursor.new result opening }
+    ensures { Reads cursor.old cursor.new result open_command }
 {
     let counter = read_field(cursor, b"counter")?;
     let case = read_field(cursor, b"case")?;

@@ -1,4 +1,4 @@
--- What is found in memory, and that it is what a run tells. Assumes nothing.
+-- What is found in memory, and that it is what a run tells.
 use Rattle.std.proofs.Common.{◌≡◌, ℕ, None, Option, Result, ◌∙◌}
 use Rattle.std.proofs.lemmas.Bool.{cond-true, lt-ltb, not_from_false}
 use Rattle.protocol.specs.declared.messages.Subject.{Subject}

@@ -1,4 +1,4 @@
--- What reading answers, and what that has to do with runs. Assumes nothing.
+-- What reading answers, and what that has to do with runs.
 use Rattle.std.specs.Prelude.{◌≡◌, ℕ, List, Some, None, Ok, Err, Option, Result}
 use Rattle.protocol.specs.declared.messages.Message.{Message}
 use Rattle.protocol.specs.declared.messages.Subject.{Subject}
@@ -6,7 +6,7 @@ use Rattle.protocol.specs.declared.refusals.Refusal.{Refusal}
 use Rattle.protocol.specs.declared.refusals.Refusal.TheVariants.{SubjectOutOfPlan}
 use Rattle.plan.specs.Kinds.{Line}
 use Rattle.memory.specs.Contents.{Held}
-use Rattle.memory.specs.Places.{within, place, body_at}
+use Rattle.memory.specs.Places.{within, record_place, body_at}
 use Rattle.rules.specs.Turns.{Coin, unless, correct_tests}
 use Rattle.rules.specs.Runs.{Event, Run, Accepted}
 use Rattle.rules.specs.Promises.{Correct}
@@ -19,7 +19,7 @@ read_refusal line h i s = correct_tests line h i (unless (within line.plan s) Su
 
 -- a place was found, or reading is refused
 abbrev pub Located : Line → Held → ℕ → Subject → Result ℕ Refusal → Type 0
-Located line h i s (Ok at) = (read_refusal line h i s ≡ None) × (at ≡ place line.plan i s)
+Located line h i s (Ok at) = (read_refusal line h i s ≡ None) × (at ≡ record_place line.plan i s)
 Located line h i s (Err e) = read_refusal line h i s ≡ Some e
 
 -- what a body is read as, if it was accepted

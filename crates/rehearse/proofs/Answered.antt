@@ -7,14 +7,14 @@ use Rattle.script.specs.Lint.{checked, told, Responds}
 use Rattle.desk.specs.Desk.{AtDesk, DeskAfter, desk_after, acts}
 use Rattle.desk.specs.Wording.{said_text}
 use Rattle.desk.specs.declared.said.Said.{Said}
-use Rattle.rehearse.specs.Rehearsed.{reply, refused_as_fault, reply_to, replies, answers}
+use Rattle.rehearse.specs.Rehearsed.{reply, refused_as_fault, reply_to, line_reply, answers}
 
 module _ (places n : ℕ) (d : AtDesk) (line : List ℕ) where
-  reply_is : (r : Result Form ScriptFault) → r ≡ checked n line → reply_to places d r ≡ replies places n d line
-  unfolding replies
+  reply_is : (r : Result Form ScriptFault) → r ≡ checked n line → reply_to places d r ≡ line_reply places n d line
+  unfolding line_reply
   reply_is r e = ap (reply_to places d) e
 
-  responds : (r : Result Said ScriptFault) (after : AtDesk) (room : ℕ) → reply r after ≡ replies places n d line → room ≡ places → Responds said_text (answers places d) (answers room after) n line r
+  responds : (r : Result Said ScriptFault) (after : AtDesk) (room : ℕ) → reply r after ≡ line_reply places n d line → room ≡ places → Responds said_text (answers places d) (answers room after) n line r
   responds r after room e same = λ ls i. told said_text (e i).said ++ (10 ∷ answers (same i) (e i).desk (n + 1) ls)
 
   -- a line that does not read

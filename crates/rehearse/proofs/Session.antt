@@ -10,8 +10,8 @@ use Rattle.desk.specs.Telling.{Stands}
 use Rattle.desk.specs.Wording.{said_text}
 use Rattle.desk.specs.declared.said.Said.{Said}
 use Rattle.desk.proofs.Telling.{tells}
-use Rattle.rehearse.specs.Rehearsed.{refused_as_fault, reply_to, replies, answers, at_start, rehearsed}
-use Rattle.rehearse.specs.Session.{Session, over, not_read, form_read, printed, Rehearsal}
+use Rattle.rehearse.specs.Rehearsed.{refused_as_fault, reply_to, line_reply, answers, at_start, rehearsed}
+use Rattle.rehearse.specs.Session.{Session, at_end, not_read, form_read, printed, Rehearsal}
 
 module _ (places : ℕ) where
   -- a session that prints these answers
@@ -40,8 +40,8 @@ module _ (places : ℕ) where
       }
 
   lines_replied : (ls : List (List ℕ)) (d : AtDesk) (es : List Event) (n : ℕ) → Stands places d es → Printing d es n ls (answers places d n ls)
-  unfolding replies
-  lines_replied [] d es n stands = record { replied = []; shows = refl; session = over }
+  unfolding line_reply
+  lines_replied [] d es n stands = record { replied = []; shows = refl; session = at_end }
   lines_replied (line ∷ ls) d es n stands = line_replied d es n line ls (checked n line) stands refl (λ e fs x. lines_replied ls e fs (n + 1) x)
 
 -- what the definition prints for a script within the limit

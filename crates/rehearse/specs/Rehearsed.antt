@@ -27,13 +27,13 @@ abbrev pub reply_to : ℕ → AtDesk → Result Form ScriptFault → Reply
 reply_to places d (Ok f) = reply (refused_as_fault (acts places d f).said) (acts places d f).desk
 reply_to places d (Err e) = reply (Err e) d
 
-unfoldable pub replies : ℕ → ℕ → AtDesk → List ℕ → Reply
-replies places n d line = reply_to places d (checked n line)
+unfoldable pub line_reply : ℕ → ℕ → AtDesk → List ℕ → Reply
+line_reply places n d line = reply_to places d (checked n line)
 
 -- the answers to lines, the first of which has number n; each finds what the one before it left
 abbrev pub answers : ℕ → AtDesk → ℕ → List (List ℕ) → List ℕ
 answers places d n [] = []
-answers places d n (l ∷ ls) = told said_text (replies places n d l).said ++ (10 ∷ answers places (replies places n d l).desk (n + 1) ls)
+answers places d n (l ∷ ls) = told said_text (line_reply places n d l).said ++ (10 ∷ answers places (line_reply places n d l).desk (n + 1) ls)
 
 -- memory for 5 processes with 2 serials, 1 case and 3 phases
 unfoldable pub fresh : Held

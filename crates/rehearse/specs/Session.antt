@@ -14,7 +14,7 @@ use Rattle.rehearse.specs.Rehearsed.{refused_as_fault, at_start}
 module _ (places : ℕ) where
   -- Lines, of which the first has number n, get these replies at a desk to which these events led.
   pub data Session : AtDesk → List Event → ℕ → List (List ℕ) → List (Result Said ScriptFault) → Type 0 where
-    over : {d : AtDesk} {es : List Event} {n : ℕ} → Session d es n [] []
+    at_end : {d : AtDesk} {es : List Event} {n : ℕ} → Session d es n [] []
     -- a line that does not read gets its fault: nothing is told, and nothing changes
     not_read : {d : AtDesk} {es : List Event} {n : ℕ} {line : List ℕ} {ls : List (List ℕ)} {rs : List (Result Said ScriptFault)} (e : ScriptFault) → checked n line ≡ Err e → Session d es (n + 1) ls rs → Session d es n (line ∷ ls) (Err e ∷ rs)
     -- The form of a line is acted on. What was told so far led to the desk as it then stands, and so the

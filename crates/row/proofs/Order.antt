@@ -1,4 +1,4 @@
--- Which message is taken. Assumes nothing.
+-- Which message is taken.
 use Rattle.std.proofs.Common.{◌≡◌, ℕ, zero, suc, ◌+◌, ◌<◌, ◌≤◌, Bool, true, false, cond, List, [], ◌∷◌, length, get_or, Some, None, Option, Err, Result, sym, refl, ap, ◌∙◌, subst, ⊎_elim, add-zero, zero-add, arith}
 use Rattle.std.specs.List.{remove, slice_get, enumerate_from, filter_map, cons_option}
 use Rattle.std.specs.Option.{option_map, ok_or}

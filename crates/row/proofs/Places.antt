@@ -1,4 +1,4 @@
--- The first places of a list, one of them more, and one taken out. Assumes nothing.
+-- The first places of a list, one of them more, and one taken out.
 use Rattle.std.proofs.Common.{◌≡◌, ℕ, suc, ◌+◌, ◌-◌, ◌<◌, ◌≤◌, List, ◌++◌, length, take, drop, sym, ap, ◌∙◌, add-one, arith}
 use Rattle.std.specs.List.{remove, copy_within}
 use Rattle.std.proofs.lemmas.List.{append-nil, length-take-le, length-drop, length-append, take_all, take-take, drop-take, drop_all}

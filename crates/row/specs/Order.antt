@@ -1,4 +1,4 @@
--- Messages in order of posting, and which of them is taken. Assumes nothing.
+-- Messages in order of posting, and which of them is taken.
 use Rattle.std.specs.Prelude.{◌≡◌, ℕ, zero, suc, ◌-◌, ◌%◌, ◌≤◌, cond, List, [], ◌∷◌, ◌++◌, length, take, Ok, Err, Option, Result}
 use Rattle.std.proofs.Common.{arith, length-take}
 use Rattle.std.specs.List.{remove, slice_get}

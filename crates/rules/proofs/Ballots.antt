@@ -8,7 +8,7 @@ use Rattle.protocol.specs.declared.votes.Side.{Side}
 use Rattle.agreement.proofs.Bodies.{some_if}
 use Rattle.plan.specs.Kinds.{Line}
 use Rattle.memory.specs.Contents.{Held, silent, unopened, case_at, accepted_body}
-use Rattle.memory.specs.Places.{enough, within, place, case_place}
+use Rattle.memory.specs.Places.{enough, within, record_place, case_place}
 use Rattle.memory.specs.declared.records.BroadcastRecord.{BroadcastRecord}
 use Rattle.memory.specs.declared.records.Decision.{Decision}
 use Rattle.memory.proofs.Grid.{laid}
@@ -16,7 +16,7 @@ use Rattle.memory.proofs.Sizes.{sizes}
 use Rattle.consensus.specs.Validity.{Part}
 use Rattle.ballots.specs.Places.{ballots_at}
 use Rattle.agreement.specs.Records.{Rec}
-use Rattle.agreement.specs.Runs.{State, told}
+use Rattle.agreement.specs.Runs.{State, after_telling}
 use Rattle.rules.specs.Turns.{moved}
 use Rattle.rules.specs.Runs.{Event, opened, advanced}
 use Rattle.rules.proofs.Stages.{shown_accepted}
@@ -28,7 +28,7 @@ module _ (line : Line) where
   pub same_ballots : (h next : Held) → next.broadcasts ≡ h.broadcasts → (i c : ℕ) → Part (ballots_at line.plan h i c) (ballots_at line.plan next i c)
   unfolding ballots_at
   same_ballots h next e i c o r b x =
-      subst (λ (rs : List BroadcastRecord). cond (within line.plan (Ballot o c (suc r))) (accepted_body (get_or rs (place line.plan i (Ballot o c (suc r))) silent).stage) None ≡ Some b) (sym e) x
+      subst (λ (rs : List BroadcastRecord). cond (within line.plan (Ballot o c (suc r))) (accepted_body (get_or rs (record_place line.plan i (Ballot o c (suc r))) silent).stage) None ≡ Some b) (sym e) x
 
   module _ (h : Held) (recs : ℕ → Subject → Rec) (keeps : (i : ℕ) (s : Subject) → i < line.plan.n → within line.plan s ≡ true → Keeps line h i s (recs i s)) (i c o r b : ℕ) (lt : i < line.plan.n) where
     pub ballot_accepted : ballots_at line.plan h i c o r ≡ Some b → (within line.plan (Ballot o c (suc r)) ≡ true) × ((recs i (Ballot o c (suc r))).accepted ≡ Some b)
@@ -65,10 +65,10 @@ apart_subject true true e h = absurd (both_ways true h refl)
 apart_subject true false e h = refl
 apart_subject false b e h = refl
 
-pub said_other : (i c k b : ℕ) (left : List Message) (st : State) (j d q : ℕ) → (eqb j i && eqb d c) ≡ false → (told (Ballot i c k) b left st).said (Ballot j d q) ≡ st.said (Ballot j d q)
+pub said_other : (i c k b : ℕ) (left : List Message) (st : State) (j d q : ℕ) → (eqb j i && eqb d c) ≡ false → (after_telling (Ballot i c k) b left st).said (Ballot j d q) ≡ st.said (Ballot j d q)
 said_other i c k b left st j d q e = cond-false _ _ _ (apart_subject (eqb j i) (eqb d c) (eqb q k) e)
 
-pub said_round : (i c k b : ℕ) (left : List Message) (st : State) (q : ℕ) → (q ≡ k → ⊥) → (told (Ballot i c k) b left st).said (Ballot i c q) ≡ st.said (Ballot i c q)
+pub said_round : (i c k b : ℕ) (left : List Message) (st : State) (q : ℕ) → (q ≡ k → ⊥) → (after_telling (Ballot i c k) b left st).said (Ballot i c q) ≡ st.said (Ballot i c q)
 said_round i c k b left st q apart = cond-false _ _ _ (and_right (eqb i i) _ (and_right (eqb c c) _ (ne_eqb q k apart)))
 
 -- what is told of one case says nothing of another

@@ -14,12 +14,12 @@ use Rattle.protocol.specs.declared.votes.Side.{Side}
 use Rattle.agreement.proofs.Bodies.{none_some}
 use Rattle.plan.specs.Kinds.{Line}
 use Rattle.memory.specs.Contents.{Held, silent, case_at}
-use Rattle.memory.specs.Places.{place, case_place}
+use Rattle.memory.specs.Places.{record_place, case_place}
 use Rattle.memory.specs.declared.records.BroadcastRecord.{BroadcastRecord}
 use Rattle.memory.specs.declared.records.CaseRecord.{CaseRecord}
 use Rattle.memory.specs.declared.records.Decision.{Decision}
 use Rattle.agreement.specs.Runs as machine
-use Rattle.agreement.specs.Runs.{State, told}
+use Rattle.agreement.specs.Runs.{State, after_telling}
 use Rattle.agreement.proofs.Bodies.{when_set, when_from}
 use Rattle.agreement.proofs.Waiting.{subject_same}
 use Rattle.ballots.proofs.Reading.{ballot_within}
@@ -42,8 +42,8 @@ module _ (line : Line) (capacity : ℕ) (coin : Coin) (es : List Event) (h : Hel
         ⊎_elim (λ (e : (eqb j i && eqb d c) ≡ true). let same = and_parts _ _ e in subst₂ (CaseShown line coin later next now) (sym (eqb-true j i same.0)) (sym (eqb-true d c same.1)) here) (λ (e : (eqb j i && eqb d c) ≡ false). there j d e l b)
         (cases_Bool (eqb j i && eqb d c))
 
-    mirrored : (round : ℕ) (decision : Option Decision) (told : Subject → Option ℕ) (waiting left : List Message) → ((j k : ℕ) → told (Item j k) ≡ st.said (Item j k)) → Same waiting left → count (stranger line) left ≡ 0 → Mirrors line (moved line i c round decision h) left (record { recs = st.recs; said = told; waiting = waiting })
-    mirrored round decision told waiting left same waits known = record {
+    mirrored : (round : ℕ) (decision : Option Decision) (after_telling : Subject → Option ℕ) (waiting left : List Message) → ((j k : ℕ) → after_telling (Item j k) ≡ st.said (Item j k)) → Same waiting left → count (stranger line) left ≡ 0 → Mirrors line (moved line i c round decision h) left (record { recs = st.recs; said = after_telling; waiting = waiting })
+    mirrored round decision after_telling waiting left same waits known = record {
       large = moved_large line h shows.mirrors.large i c round decision lt below;
       records = λ j s l w. let kept = shows.mirrors.records j s l w in record { stage = kept.stage; rows = kept.rows };
       fresh = λ j k l used. same j k ∙ shows.mirrors.fresh j k l used;
@@ -68,7 +68,7 @@ module _ (line : Line) (capacity : ℕ) (coin : Coin) (es : List Event) (h : Hel
     open_held = moved line i c 1 (case_at h (case_place line.plan i c)).decision h
 
     abbrev open_state : State
-    open_state = told (Ballot i c 1) v left st
+    open_state = after_telling (Ballot i c 1) v left st
 
     open_here : CaseShown line coin (opened i c v posted ∷ es) open_held open_state i c
     open_here =
@@ -81,7 +81,7 @@ module _ (line : Line) (capacity : ℕ) (coin : Coin) (es : List Event) (h : Hel
     by_opened =
         let inside = ballot_within line.plan i c 1 open_may.process open_may.case (omega arith) (omega (arith, line.plan.first)) in (
           open_state,
-          λ run. machine.after run (machine.tell (Ballot i c 1) v left (open_may.process, open_may.correct) open_none (joined line capacity coin es h ws st shows (to_all line.plan.n i Initial (Ballot i c 1) v) left d.carrier)),
+          λ run. machine.by_transition run (machine.tells (Ballot i c 1) v left (open_may.process, open_may.correct) open_none (joined line capacity coin es h ws st shows (to_all line.plan.n i Initial (Ballot i c 1) v) left d.carrier)),
           subst (λ x. Shows line coin (opened i c v posted ∷ es) x left open_state) (sym d.memory) (record {
             mirrors = mirrored i c open_may.process open_may.case 1 _ open_state.said left left (λ j k. refl) (λ p. refl) (known_told line capacity coin es h ws st shows i (Ballot i c 1) v left open_may.process inside d.carrier);
             items = items_on (opened i c v posted) es st open_state (λ j k b x. x) (λ j k. refl) shows.items;
@@ -165,7 +165,7 @@ module _ (line : Line) (capacity : ℕ) (coin : Coin) (es : List Event) (h : Hel
         )
 
     abbrev ballot_state : State
-    ballot_state = told (Ballot i c (suc (suc q))) body left st
+    ballot_state = after_telling (Ballot i c (suc (suc q))) body left st
 
     by_next : ltb r (3 * line.plan.phases) ≡ true → Follow line coin st onward after left
     by_next early =
@@ -176,7 +176,7 @@ module _ (line : Line) (capacity : ℕ) (coin : Coin) (es : List Event) (h : Hel
         subst₂ (λ (k b : ℕ). Same left (to_all n i Initial (Ballot i c k) b ++ ws)) subject_is body_is (subst (λ o. Same left (sent_for line o said_ballot ++ ws)) (cond-true (ltb r (3 * line.plan.phases)) _ None early) a.done.carrier) in
         let inside = ballot_within line.plan i c (suc (suc q)) may_advance_lem.process may_advance_lem.case (omega arith) (omega (arith, before, r_is)) in (
           ballot_state,
-          λ run. machine.after run (machine.tell (Ballot i c (suc (suc q))) body left (may_advance_lem.process, may_advance_lem.correct) unsaid_next (joined line capacity coin es h ws st shows (to_all n i Initial (Ballot i c (suc (suc q))) body) left end)),
+          λ run. machine.by_transition run (machine.tells (Ballot i c (suc (suc q))) body left (may_advance_lem.process, may_advance_lem.correct) unsaid_next (joined line capacity coin es h ws st shows (to_all n i Initial (Ballot i c (suc (suc q))) body) left end)),
           subst (λ y. Shows line coin onward y left ballot_state) (sym a.done.memory) (record {
             mirrors = mirrored i c may_advance_lem.process may_advance_lem.case (r + 1) _ ballot_state.said left left (λ j k. refl) (λ p. refl) (known_told line capacity coin es h ws st shows i (Ballot i c (suc (suc q))) body left may_advance_lem.process inside end);
             items = items_on (advanced i c (suc q) a.step.forced a.step.decides reached posted) es st ballot_state (λ j k b x. x) (λ j k. refl) shows.items;
@@ -203,7 +203,7 @@ module _ (line : Line) (capacity : ℕ) (coin : Coin) (es : List Event) (h : Hel
       large = as_large line.plan h next (ap (λ (xs : List BroadcastRecord). length xs) same.broadcasts) (ap (λ (xs : List (Option ℕ)). length xs) same.bodies) same.cases (ap (λ (xs : List ℕ). length xs) same.serials) shows.mirrors.large;
       records = λ i s lt inside.
           let kept = shows.mirrors.records i s lt inside in
-          let at = place line.plan i s in
+          let at = record_place line.plan i s in
           record {
             stage = subst (λ (xs : List BroadcastRecord). Shown (get_or xs at silent).stage (st.recs i s).echoed (st.recs i s).readied (st.recs i s).accepted) (sym same.broadcasts) kept.stage;
             rows = subst (λ xs. Rows line at xs (st.recs i s).echo (st.recs i s).ready) (sym same.bodies) kept.rows;

@@ -18,7 +18,7 @@ use Rattle.consensus.specs.Decisions.{Tossed}
 use Rattle.consensus.proofs.Accounts.{Left, justified_grows, left_grows}
 use Rattle.ballots.specs.Places.{ballots_at}
 use Rattle.cases.specs.Steps.{round_at, Says}
-use Rattle.cases.specs.declared.steps.Step.{Step}
+use Rattle.cases.specs.declared.steps.Progress.{Progress}
 use Rattle.agreement.specs.Runs.{State}
 use Rattle.rules.specs.Turns.{said, decision_after, Coin}
 use Rattle.rules.specs.Runs.{Event, opened, advanced, Told, Opening, Advancing}
@@ -122,7 +122,7 @@ module _ (line : Line) (coin : Coin) (es : List Event) (h : Held) (st : State) (
         first (suc q) lt below = absurd (omega (arith, round))
 
   -- the process advances from round q + 1 by a set S
-  module _ (q : ℕ) (S : ℕ → Bool) (step : Step) (reached posted : ℕ) (next : Held) (now : State) (at : round_at line.plan h i c ≡ suc q) (round : round_at line.plan next i c ≡ suc (suc q)) (says : Says n t G q S step) (decision : (case_at next (case_place line.plan i c)).decision ≡ decision_after (case_at h (case_place line.plan i c)).decision step.decides (suc q / 3)) (part : Part G (ballots_at line.plan next i c)) where
+  module _ (q : ℕ) (S : ℕ → Bool) (step : Progress) (reached posted : ℕ) (next : Held) (now : State) (at : round_at line.plan h i c ≡ suc q) (round : round_at line.plan next i c ≡ suc (suc q)) (says : Says n t G q S step) (decision : (case_at next (case_place line.plan i c)).decision ≡ decision_after (case_at h (case_place line.plan i c)).decision step.decides (suc q / 3)) (part : Part G (ballots_at line.plan next i c)) where
     abbrev body : ℕ
     body = ballot_number (said step.next (coin i c (suc q / 3)))
 

@@ -11,7 +11,7 @@ use Rattle.plan.specs.Plans.{needs_of}
 use Rattle.plan.specs.Sheet.{thresholds_of}
 use Rattle.plan.specs.Kinds.{Line}
 use Rattle.memory.specs.Contents.{Held, silent, stage_at}
-use Rattle.memory.specs.Places.{enough, within, place, readies, placed}
+use Rattle.memory.specs.Places.{enough, within, record_place, readies, record_places}
 use Rattle.memory.specs.declared.records.BroadcastRecord.{BroadcastRecord}
 use Rattle.memory.specs.declared.records.Stage.{Stage}
 use Rattle.memory.specs.declared.records.Stage.TheVariants.{Silent, Echoed, Readied, Accepted}
@@ -22,7 +22,7 @@ use Rattle.broadcast.specs.Receiving.{outcome, heard, handled, received}
 use Rattle.broadcast.specs.Stages.{Turned, turn, put}
 use Rattle.agreement.specs.Records as machine
 use Rattle.agreement.specs.Records.{Rec}
-use Rattle.agreement.specs.Runs.{delivered}
+use Rattle.agreement.specs.Runs.{records_after}
 use Rattle.agreement.proofs.Waiting.{same_subject_true, subject_same}
 use Rattle.rules.proofs.Rows.{heard_length, heard_elsewhere}
 use Rattle.rules.proofs.Stages.{Shown, onward, Follows}
@@ -45,7 +45,7 @@ module _ (at : ℕ) (rs : List BroadcastRecord) where
 
 module _ (line : Line) (m : Message) (known : m.sender < line.plan.n) where
   -- a record that the message is not for keeps what was heard, and how much there is stays
-  listened_elsewhere : (step : Step) (q k : ℕ) → k ≢ q → (xs : List (Option ℕ)) (f g : ℕ → Option ℕ) → Rows line k xs f g → Rows line k (listened (placed line.plan q) m step xs) f g
+  listened_elsewhere : (step : Step) (q k : ℕ) → k ≢ q → (xs : List (Option ℕ)) (f g : ℕ → Option ℕ) → Rows line k xs f g → Rows line k (listened (record_places line.plan q) m step xs) f g
   listened_elsewhere Initial q k apart xs f g rows = rows
   listened_elsewhere Echo q k apart xs f g rows = record {
     echo = λ j lt. heard_elsewhere xs _ m.body _ (λ z. apart ((laid line.plan).echo_apart k q j m.sender lt known z).0) ∙ rows.echo j lt;
@@ -56,18 +56,18 @@ module _ (line : Line) (m : Message) (known : m.sender < line.plan.n) where
     ready = λ j lt. heard_elsewhere xs _ m.body _ (λ z. apart ((laid line.plan).ready_apart k q j m.sender lt known z).0) ∙ rows.ready j lt;
   }
 
-  heard_rows : (x : Stage) (q k : ℕ) → k ≢ q → (xs : List (Option ℕ)) (f g : ℕ → Option ℕ) → Rows line k xs f g → Rows line k (heard (placed line.plan q) m x xs) f g
+  heard_rows : (x : Stage) (q k : ℕ) → k ≢ q → (xs : List (Option ℕ)) (f g : ℕ → Option ℕ) → Rows line k xs f g → Rows line k (heard (record_places line.plan q) m x xs) f g
   heard_rows Silent q k apart xs f g rows = listened_elsewhere m.step q k apart xs f g rows
   heard_rows Echoed q k apart xs f g rows = listened_elsewhere m.step q k apart xs f g rows
   heard_rows Readied q k apart xs f g rows = listened_elsewhere m.step q k apart xs f g rows
   heard_rows (Accepted b) q k apart xs f g rows = rows
 
-listened_length : (line : Line) (m : Message) (step : Step) (q : ℕ) (xs : List (Option ℕ)) → length (listened (placed line.plan q) m step xs) ≡ length xs
+listened_length : (line : Line) (m : Message) (step : Step) (q : ℕ) (xs : List (Option ℕ)) → length (listened (record_places line.plan q) m step xs) ≡ length xs
 listened_length line m Initial q xs = refl
 listened_length line m Echo q xs = heard_length xs _ m.body
 listened_length line m Ready q xs = heard_length xs _ m.body
 
-all_heard : (line : Line) (m : Message) (x : Stage) (q : ℕ) (xs : List (Option ℕ)) → length (heard (placed line.plan q) m x xs) ≡ length xs
+all_heard : (line : Line) (m : Message) (x : Stage) (q : ℕ) (xs : List (Option ℕ)) → length (heard (record_places line.plan q) m x xs) ≡ length xs
 all_heard line m Silent q xs = listened_length line m m.step q xs
 all_heard line m Echoed q xs = listened_length line m m.step q xs
 all_heard line m Readied q xs = listened_length line m m.step q xs
@@ -75,16 +75,16 @@ all_heard line m (Accepted b) q xs = refl
 
 module _ (line : Line) (h : Held) (large : enough line.plan h ≡ true) (m : Message) (to : m.addressee < line.plan.n) (known : m.sender < line.plan.n) (inside : within line.plan m.subject ≡ true) where
   abbrev q : ℕ
-  q = place line.plan m.addressee m.subject
+  q = record_place line.plan m.addressee m.subject
 
   abbrev stage : Stage
   stage = stage_at h q
 
   abbrev bodies : List (Option ℕ)
-  bodies = heard (placed line.plan q) m stage h.bodies
+  bodies = heard (record_places line.plan q) m stage h.bodies
 
   abbrev pub turned : Turned
-  turned = turn (thresholds_of line.plan.n line.plan.t) m (agreeing line.plan.n (placed line.plan q) m m.step bodies) stage
+  turned = turn (thresholds_of line.plan.n line.plan.t) m (agreeing line.plan.n (record_places line.plan q) m m.step bodies) stage
 
   abbrev pub landed : Held
   landed = record { broadcasts = put q turned.next h.broadcasts; bodies = bodies; cases = h.cases; serials = h.serials }
@@ -127,15 +127,15 @@ module _ (line : Line) (h : Held) (large : enough line.plan h ≡ true) (m : Mes
           rows = rows_made line q h.bodies fits m known old.echo old.ready k.rows stage old.echoed old.readied old.accepted k.stage;
         }
 
-    keeps_elsewhere : (j : ℕ) (u : Subject) → j < line.plan.n → within line.plan u ≡ true → place line.plan j u ≢ q → Keeps line landed j u (recs j u)
+    keeps_elsewhere : (j : ℕ) (u : Subject) → j < line.plan.n → within line.plan u ≡ true → record_place line.plan j u ≢ q → Keeps line landed j u (recs j u)
     keeps_elsewhere j u lt within_u apart =
         let k = keeps j u lt within_u in
         record {
-          stage = subst (λ x. Shown x (recs j u).echoed (recs j u).readied (recs j u).accepted) (sym (ap (λ (r : BroadcastRecord). r.stage) (put_elsewhere q h.broadcasts turned.next (place line.plan j u) apart))) k.stage;
-          rows = heard_rows line m known stage q (place line.plan j u) apart h.bodies (recs j u).echo (recs j u).ready k.rows;
+          stage = subst (λ x. Shown x (recs j u).echoed (recs j u).readied (recs j u).accepted) (sym (ap (λ (r : BroadcastRecord). r.stage) (put_elsewhere q h.broadcasts turned.next (record_place line.plan j u) apart))) k.stage;
+          rows = heard_rows line m known stage q (record_place line.plan j u) apart h.bodies (recs j u).echo (recs j u).ready k.rows;
         }
 
-    pub keeps_landed : (j : ℕ) (u : Subject) → j < line.plan.n → within line.plan u ≡ true → Keeps line landed j u (delivered (world_of line) m recs j u)
+    pub keeps_landed : (j : ℕ) (u : Subject) → j < line.plan.n → within line.plan u ≡ true → Keeps line landed j u (records_after (world_of line) m recs j u)
     keeps_landed j u lt within_u =
         cond_both (eqb j m.addressee && same_subject u m.subject) (made u (recs j u)) (recs j u) (Keeps line landed j u) here there
       where
@@ -149,14 +149,14 @@ module _ (line : Line) (h : Held) (large : enough line.plan h ≡ true) (m : Mes
             let same = (laid line.plan).apart j m.addressee u m.subject lt to within_u inside z in
             both_ways _ e (and_from _ _ (eq-eqb _ _ same.0) (subst (λ v. same_subject u v ≡ true) same.1 (subject_same u))))
 
-    pub here_is : delivered (world_of line) m recs m.addressee m.subject ≡ made m.subject old
+    pub here_is : records_after (world_of line) m recs m.addressee m.subject ≡ made m.subject old
     here_is = cond-true _ _ _ (and_from _ _ (eq-eqb m.addressee m.addressee refl) (subject_same m.subject))
 
     -- what the machine has as accepted, and what the turn answers
-    pub accepts : turned.reaction.accepted ≡ true → (delivered (world_of line) m recs m.addressee m.subject).accepted ≡ Some m.body
+    pub accepts : turned.reaction.accepted ≡ true → (records_after (world_of line) m recs m.addressee m.subject).accepted ≡ Some m.body
     accepts e = ap (λ (r : Rec). r.accepted) here_is ∙ follows.accepts e
 
-    pub from : (j : ℕ) (u : Subject) (b : ℕ) → (delivered (world_of line) m recs j u).accepted ≡ Some b → ((recs j u).accepted ≡ Some b) ⊎ ((turned.reaction.accepted ≡ true) × (m.addressee ≡ j) × (m.subject ≡ u) × (m.body ≡ b))
+    pub from : (j : ℕ) (u : Subject) (b : ℕ) → (records_after (world_of line) m recs j u).accepted ≡ Some b → ((recs j u).accepted ≡ Some b) ⊎ ((turned.reaction.accepted ≡ true) × (m.addressee ≡ j) × (m.subject ≡ u) × (m.body ≡ b))
     from j u b = cond_both (eqb j m.addressee && same_subject u m.subject) (made u (recs j u)) (recs j u) (λ r. r.accepted ≡ Some b → ((recs j u).accepted ≡ Some b) ⊎ ((turned.reaction.accepted ≡ true) × (m.addressee ≡ j) × (m.subject ≡ u) × (m.body ≡ b))) here (λ e x. inl x)
       where
         here : (eqb j m.addressee && same_subject u m.subject) ≡ true → (made u (recs j u)).accepted ≡ Some b → ((recs j u).accepted ≡ Some b) ⊎ ((turned.reaction.accepted ≡ true) × (m.addressee ≡ j) × (m.subject ≡ u) × (m.body ≡ b))

@@ -32,7 +32,7 @@ use Rattle.consensus.specs.Rounds.{tally}
 use Rattle.consensus.specs.Validity.{lowest}
 use Rattle.cases.specs.Steps.{step_at, step_by, chosen}
 use Rattle.cases.proofs.Going.{law}
-use Rattle.cases.specs.declared.steps.Step.{Step}
+use Rattle.cases.specs.declared.steps.Progress.{Progress}
 use Rattle.rules.specs.Turns as turns
 use Rattle.rules.specs.Turns.{refusal, reacted, replies, moved, said, decision_after, Coin}
 use Rattle.rules.specs.Runs.{Event, Run, begun, after, announced, opened, delivered, advanced, Told, Opening, Advancing, Opened, Forced, Ended}
@@ -132,7 +132,7 @@ module _ (s : Subject) (b : ℕ) (bs : List ℕ) (left round : ℕ) (decision : 
   hears_all es e run = hears _ _ _ _ _ true refl e.2 (hears _ _ _ _ _ false refl e.1 (hears _ _ _ _ _ false refl e.0 run))
 
 -- the process advances, and nothing waits
-abbrev going : Held → ℕ → Step → Deed
+abbrev going : Held → ℕ → Progress → Deed
 going h r step = record {
   refused = refusal line 3 h [] (turns.Advance 0 0);
   held = moved line 0 0 (r + 1) (decision_after (case_at h 0).decision step.decides (r / 3)) h;
@@ -141,10 +141,10 @@ going h r step = record {
 }
 
 -- a round: its ballot is accepted, and the process goes on
-abbrev gone : ℕ → ℕ → Step → List Message → List Event → List Event
+abbrev gone : ℕ → ℕ → Progress → List Message → List Event → List Event
 gone r b step sent es = advanced 0 0 r step.forced step.decides (r + 1) (length sent) ∷ heard (vote r) b es
 
-goes : (r b : ℕ) (bs : List ℕ) (left : ℕ) (decision : Option Decision) (step : Step) (sent : List Message) (next : Held) (es : List Event) → Hearing (vote r) b bs left r decision → step_at plan (accepted bs left 1 r decision b) 0 0 ≡ Some step → going (accepted bs left 1 r decision b) r step ≡ done next sent false → Run line 3 coin es (untouched bs left 1 r decision) (letter Initial (vote r) b ∷ []) → Run line 3 coin (gone r b step sent es) next (sent ++ [])
+goes : (r b : ℕ) (bs : List ℕ) (left : ℕ) (decision : Option Decision) (step : Progress) (sent : List Message) (next : Held) (es : List Event) → Hearing (vote r) b bs left r decision → step_at plan (accepted bs left 1 r decision b) 0 0 ≡ Some step → going (accepted bs left 1 r decision b) r step ≡ done next sent false → Run line 3 coin es (untouched bs left 1 r decision) (letter Initial (vote r) b ∷ []) → Run line 3 coin (gone r b step sent es) next (sent ++ [])
 goes r b bs left decision step sent next es heard_it by e run =
     after (hears_all (vote r) b bs left r decision es heard_it run) _ (record {
       step = step;
@@ -158,13 +158,13 @@ goes r b bs left decision step sent next es heard_it by e run =
       done = did [] e;
     })
 
-abbrev votes : Step
+abbrev votes : Progress
 votes = record { next = Some ballot.Release; forced = None; decides = None }
 
-abbrev proposes : Step
+abbrev proposes : Progress
 proposes = record { next = Some ballot.ProposeRelease; forced = None; decides = None }
 
-abbrev decides : Step
+abbrev decides : Progress
 decides = record { next = Some ballot.Release; forced = Some Release; decides = Some Release }
 
 -- the decision of the first phase
@@ -192,7 +192,7 @@ begins =
     _ (record { allowed = refl; memory = refl; carrier = λ p. refl; counted = refl })
 
 decided : Run line 3 coin first_phase (untouched (5 ∷ 1 ∷ 1 ∷ 3 ∷ []) 2 1 4 decision) (cast 4 1)
-unfolding to_all marked message handled below count step_by tally lowest ballots_at ballots.valid_by_counting ballots.after
+unfolding to_all marked message handled below count step_by tally lowest ballots_at ballots.valid_by_counting ballots.allowed_after
 decided =
     goes 3 3 (5 ∷ 1 ∷ 1 ∷ []) 3 None decides (cast 4 1) (untouched (5 ∷ 1 ∷ 1 ∷ 3 ∷ []) 2 1 4 decision) _ (refl, refl, refl) refl refl
     (goes 2 1 (5 ∷ 1 ∷ []) 4 None proposes (cast 3 3) (untouched (5 ∷ 1 ∷ 1 ∷ []) 3 1 3 None) _ (refl, refl, refl) refl refl
@@ -202,7 +202,7 @@ abbrev end : Held
 end = accepted (5 ∷ 1 ∷ 1 ∷ 3 ∷ 1 ∷ 1 ∷ []) 0 1 7 decision 3
 
 run : Run line 3 coin events end []
-unfolding to_all marked message handled below count step_by tally lowest ballots_at ballots.valid_by_counting ballots.after
+unfolding to_all marked message handled below count step_by tally lowest ballots_at ballots.valid_by_counting ballots.allowed_after
 run =
     goes 6 3 (5 ∷ 1 ∷ 1 ∷ 3 ∷ 1 ∷ 1 ∷ []) 0 decision decides [] end _ (refl, refl, refl) refl refl
     (goes 5 1 (5 ∷ 1 ∷ 1 ∷ 3 ∷ 1 ∷ []) 1 decision proposes (cast 6 3) (untouched (5 ∷ 1 ∷ 1 ∷ 3 ∷ 1 ∷ 1 ∷ []) 0 1 6 decision) _ (refl, refl, refl) refl refl
@@ -231,7 +231,7 @@ module _ (k : ℕ) (f x : Option Side) where
   not_heard : (s : Subject) (b : ℕ) (es : List Event) → Told (Advancing 0 0 k f x) (heard s b es) → Told (Advancing 0 0 k f x) es
   not_heard s b es = ⊎_elim (λ z. absurd z) (⊎_elim (λ z. absurd z) (⊎_elim (λ z. absurd z) (λ t. t)))
 
-  not_in : (r b : ℕ) (step : Step) (sent : List Message) (es : List Event) → (r ≡ k → ⊥) → Told (Advancing 0 0 k f x) (gone r b step sent es) → Told (Advancing 0 0 k f x) es
+  not_in : (r b : ℕ) (step : Progress) (sent : List Message) (es : List Event) → (r ≡ k → ⊥) → Told (Advancing 0 0 k f x) (gone r b step sent es) → Told (Advancing 0 0 k f x) es
   not_in r b step sent es apart = ⊎_elim (λ z. absurd (apart z.2)) (not_heard (vote r) b es)
 
 before_it : (u : Side) (x : Option Side) → Told (Advancing 0 0 3 (Some u) x) (gone 2 1 proposes (cast 3 3) (gone 1 1 votes (cast 2 1) begun_with)) → ⊥

@@ -13,7 +13,7 @@ use Rattle.memory.specs.Contents.{Held, unopened}
 use Rattle.memory.specs.Places.{within}
 use Rattle.memory.specs.declared.records.CaseRecord.{CaseRecord}
 use Rattle.agreement.specs.Runs as machine
-use Rattle.agreement.specs.Runs.{State, told}
+use Rattle.agreement.specs.Runs.{State, after_telling}
 use Rattle.consensus.specs.Validity.{Part}
 use Rattle.ballots.specs.Places.{ballots_at}
 use Rattle.rules.specs.Turns.{said, Coin}
@@ -25,7 +25,7 @@ use Rattle.rules.proofs.Shows.{Shows, stranger, no_stranger}
 
 -- the machine can follow to a state that shows where the run came to
 abbrev pub Follow : Line → Coin → State → List Event → Held → List Message → Type 0
-Follow line coin st es h ws = (next : State) × (machine.Run (world_of line) st → machine.Run (world_of line) next) × Shows line coin es h ws next
+Follow line coin st es h ws = (next : State) × (machine.Reachable (world_of line) st → machine.Reachable (world_of line) next) × Shows line coin es h ws next
 
 module _ (line : Line) (capacity : ℕ) (coin : Coin) (es : List Event) (h : Held) (ws : List Message) (st : State) (shows : Shows line coin es h ws st) where
   -- what is sent joins what waits

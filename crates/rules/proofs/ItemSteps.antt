@@ -20,7 +20,7 @@ use Rattle.broadcast.specs.Stages.{nothing}
 use Rattle.broadcast.specs.declared.reactions.Reaction.{Reaction}
 use Rattle.agreement.specs.Records.{Rec}
 use Rattle.agreement.specs.Runs as machine
-use Rattle.agreement.specs.Runs.{State, told, leaving, received, sends}
+use Rattle.agreement.specs.Runs.{State, after_telling, leaving, after_receiving, sends}
 use Rattle.agreement.proofs.Bodies.{when_stays, when_set, when_from}
 use Rattle.agreement.proofs.Theorem.{lasts}
 use Rattle.consensus.specs.Validity.{Part}
@@ -63,7 +63,7 @@ module _ (line : Line) (capacity : ℕ) (coin : Coin) (es : List Event) (h : Hel
       let may = forge_allowed line capacity h ws m d.allowed in
       let here = no_strange_sender line m may.sender may.inside in (
         leaving left st,
-        λ run. machine.after run (machine.forge m left may.sender may.faulty (λ p. omega (arith, d.carrier p, count_cons p m ws, count_cons p m st.waiting, shows.mirrors.waits p))),
+        λ run. machine.by_transition run (machine.forges m left may.sender may.faulty (λ p. omega (arith, d.carrier p, count_cons p m ws, count_cons p m st.waiting, shows.mirrors.waits p))),
         quiet (forged m posted) left after left (λ i k b x. x) (λ i s b x. x) (λ j d r f x z. z) (λ j d v z. z) (λ j d. refl) d.memory (λ p. refl)
             (omega (arith, d.carrier (stranger line), count_cons (stranger line) m ws, cond-false {A = ℕ} (stranger line m) 1 0 here, shows.mirrors.known)),
       )
@@ -92,7 +92,7 @@ module _ (line : Line) (capacity : ℕ) (coin : Coin) (es : List Event) (h : Hel
         (cases_Bool (eqb j i))
 
     abbrev next : State
-    next = told (Item i k) b left st
+    next = after_telling (Item i k) b left st
 
     -- the item was told just now, or another one before
     fresh_next : (j l : ℕ) → j < line.plan.n → serial_at later j ≤ l → next.said (Item j l) ≡ None
@@ -134,7 +134,7 @@ module _ (line : Line) (capacity : ℕ) (coin : Coin) (es : List Event) (h : Hel
     pub by_announced : Follow line coin st (announced i b k posted ∷ es) after left
     by_announced = (
       next,
-      λ run. machine.after run (machine.tell (Item i k) b left (may.process, may.correct) none_said (joined line capacity coin es h ws st shows (to_all line.plan.n i Initial (Item i k) b) left a.done.carrier)),
+      λ run. machine.by_transition run (machine.tells (Item i k) b left (may.process, may.correct) none_said (joined line capacity coin es h ws st shows (to_all line.plan.n i Initial (Item i k) b) left a.done.carrier)),
       subst (λ x. Shows line coin (announced i b k posted ∷ es) x left next) (sym a.done.memory) shown,
     )
 
@@ -167,7 +167,7 @@ module _ (line : Line) (capacity : ℕ) (coin : Coin) (es : List Event) (h : Hel
         let end = done (outcome h nothing) is in
         let no_one = answer (outcome h nothing) is in (
           leaving left st,
-          λ run. machine.after run (machine.drop m left to bad (λ p. omega (arith, taken p, count_cons p m d.rest, count_cons p m left, end.carrier p))),
+          λ run. machine.by_transition run (machine.drops m left to bad (λ p. omega (arith, taken p, count_cons p m d.rest, count_cons p m left, end.carrier p))),
           quiet (delivered i pick m posted accepting) left after left (λ j k b x. x) (λ j s b x. both_ways accepting no_one x.0) (λ j d r f x z. z) (λ j d v z. z) (λ j d. refl) end.memory (λ p. refl)
               (omega (arith, end.carrier (stranger line), rest_known)),
         )
@@ -187,19 +187,19 @@ module _ (line : Line) (capacity : ℕ) (coin : Coin) (es : List Event) (h : Hel
         let o = outcome (deliveries.landed line h shows.mirrors.large m to sound.0 sound.1) (deliveries.turned line h shows.mirrors.large m to sound.0 sound.1).reaction in
         let is = cond-false (faulty line m.addressee) (outcome h nothing) _ good ∙ deliveries.received_is line h shows.mirrors.large m to sound.0 sound.1 in
         let end = done o is in
-        let next = received (world_of line) m left st in
+        let next = after_receiving (world_of line) m left st in
         let at = deliveries.follows line h shows.mirrors.large m to sound.0 sound.1 st.recs shows.mirrors.records in
         let here = deliveries.here_is line h shows.mirrors.large m to sound.0 sound.1 st.recs shows.mirrors.records in
         let a = m.addressee in
-        let sent : Same left (sends line.plan.n a m.subject (st.recs a m.subject) (machine.delivered (world_of line) m st.recs a m.subject) ++ d.rest) =
+        let sent : Same left (sends line.plan.n a m.subject (st.recs a m.subject) (machine.records_after (world_of line) m st.recs a m.subject) ++ d.rest) =
         subst (λ (r : Rec). Same left (sends line.plan.n a m.subject (st.recs a m.subject) r ++ d.rest)) (sym here) (subst (λ (xs : List Message). Same left (xs ++ d.rest)) at.sent end.carrier) in
-        let turn : machine.Turn (world_of line) st next = machine.deliver m d.rest left (to, good) taken sent in
+        let turn : machine.Transition (world_of line) st next = machine.delivers m d.rest left (to, good) taken sent in
         let grows : (j d : ℕ) → j < line.plan.n → Part (ballots_at line.plan h j d) (ballots_at line.plan o.held j d) = λ j d lt k r b x.
         let old = ballot_accepted line h st.recs shows.mirrors.records j d k r b lt x in
         accepted_ballot line o.held next.recs (deliveries.keeps_landed line h shows.mirrors.large m to sound.0 sound.1 st.recs shows.mirrors.records) j d k r b lt old.0 ((lasts (world_of line) st next turn).accepted (Ballot k d (suc r)) j b old.1) in
         let now = deliveries.accepts line h shows.mirrors.large m to sound.0 sound.1 st.recs shows.mirrors.records in (
           next,
-          λ run. machine.after run turn,
+          λ run. machine.by_transition run turn,
           subst (λ x. Shows line coin (delivered i pick m posted accepting ∷ es) x left next) (sym end.memory) (record {
             mirrors = record {
               large = deliveries.landed_large line h shows.mirrors.large m to sound.0 sound.1;

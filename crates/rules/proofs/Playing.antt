@@ -5,7 +5,7 @@ use Rattle.plan.specs.Kinds.{Line}
 use Rattle.memory.specs.Contents.{serial_at}
 use Rattle.cases.proofs.Going.{law}
 use Rattle.cases.specs.Steps.{round_at, step_at, chosen}
-use Rattle.cases.specs.declared.steps.Step.{Step}
+use Rattle.cases.specs.declared.steps.Progress.{Progress}
 use Rattle.rules.specs.Turns.{Turn, Announce, Open, Forge, Deliver, Advance, Coin, Effect, refusal, announcing, opening, forging, advancing}
 use Rattle.rules.specs.Runs.{Event, announced, opened, forged, advanced, after, Told}
 use Rattle.rules.proofs.Draining.{Standing, Stands, drained, drains, drained_tells}
@@ -17,7 +17,7 @@ goes e does s = record { events = e ∷ s.events; held = does.held; waiting = do
 -- after each turn at most so many messages are delivered
 module _ (line : Line) (capacity most : ℕ) (coin : Coin) where
   -- a process advances by a step, if there is one
-  abbrev advances : ℕ → ℕ → Option Step → Standing → Standing
+  abbrev advances : ℕ → ℕ → Option Progress → Standing → Standing
   advances i c None s = s
   advances i c (Some step) s =
       let r = round_at line.plan s.held i c in
@@ -47,7 +47,7 @@ module _ (line : Line) (capacity most : ℕ) (coin : Coin) where
   plays (turn ∷ turns) s = plays turns (played turn s)
 
   module _ (s : Standing) (run : Stands line capacity coin s) where
-    by_advance : (i c : ℕ) (o : Option Step) → step_at line.plan s.held i c ≡ o → refusal line capacity s.held s.waiting (Advance i c) ≡ None → Stands line capacity coin (advances i c o s)
+    by_advance : (i c : ℕ) (o : Option Progress) → step_at line.plan s.held i c ≡ o → refusal line capacity s.held s.waiting (Advance i c) ≡ None → Stands line capacity coin (advances i c o s)
     by_advance i c None by why = run
     by_advance i c (Some step) by why =
         after run _ (record {
@@ -79,7 +79,7 @@ module _ (line : Line) (capacity most : ℕ) (coin : Coin) where
   carries (turn ∷ turns) s run = carries turns _ (drains line capacity coin most _ (by_trying s run turn _ refl))
 
   module _ (P : Event → Type 0) (s : Standing) (t : Told P s.events) where
-    advance_tells : (i c : ℕ) (o : Option Step) → Told P (advances i c o s).events
+    advance_tells : (i c : ℕ) (o : Option Progress) → Told P (advances i c o s).events
     advance_tells i c None = t
     advance_tells i c (Some step) = inr t
 

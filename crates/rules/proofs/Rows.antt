@@ -25,8 +25,8 @@ module _ (xs : List (Option ℕ)) (at b : ℕ) where
     go (Some a) e = e
 
 -- a row of places is what f says, and stays so when process k is heard
-pub heard_row : (xs : List (Option ℕ)) (from k b : ℕ) (f : ℕ → Option ℕ) (j : ℕ) → from + k < length xs → get_or xs (from + j) None ≡ f j → get_or (hear (from + k) b xs) (from + j) None ≡ machine.hear f k b j
-unfolding machine.hear
+pub heard_row : (xs : List (Option ℕ)) (from k b : ℕ) (f : ℕ → Option ℕ) (j : ℕ) → from + k < length xs → get_or xs (from + j) None ≡ f j → get_or (hear (from + k) b xs) (from + j) None ≡ machine.heard_after f k b j
+unfolding machine.heard_after
 heard_row xs from k b f j lt e = ⊎_elim same other (cases_Bool (eqb j k))
   where
     same : eqb j k ≡ true → get_or (hear (from + k) b xs) (from + j) None ≡ cond (eqb j k) (first (f j) b) (f j)

@@ -16,7 +16,7 @@ use Rattle.plan.specs.Plans.{needs_of}
 use Rattle.plan.specs.Kinds.{Line}
 use Rattle.plan.specs.declared.plans.Plan.{Plan}
 use Rattle.memory.specs.Contents.{Held, cleared, silent, unopened, stage_at, case_at, serial_at}
-use Rattle.memory.specs.Places.{enough, within, place, case_place}
+use Rattle.memory.specs.Places.{enough, within, record_place, case_place}
 use Rattle.memory.specs.declared.records.CaseRecord.{CaseRecord}
 use Rattle.memory.proofs.Grid.{laid}
 use Rattle.memory.proofs.Wiping.{wiped_length, wiped_at}
@@ -38,8 +38,8 @@ as_large plan h next b o c s large =
 
 -- memory has the machine's record
 pub record Keeps (line : Line) (h : Held) (i : ℕ) (s : Subject) (r : Rec) : Type 0 where
-  pub stage : Shown (stage_at h (place line.plan i s)) r.echoed r.readied r.accepted
-  pub rows : Rows line (place line.plan i s) h.bodies r.echo r.ready
+  pub stage : Shown (stage_at h (record_place line.plan i s)) r.echoed r.readied r.accepted
+  pub rows : Rows line (record_place line.plan i s) h.bodies r.echo r.ready
 
 -- a message that no process of the line sends
 abbrev pub stranger : Line → Message → Bool
@@ -176,10 +176,10 @@ module _ (line : Line) where
         records = λ i s lt inside.
             let at = (laid line.plan).inside i s lt inside in
             record {
-              stage = subst (λ x. Shown x None None None) (sym (ap (λ r. r.stage) (wiped_at silent _ (place line.plan i s) h.broadcasts at))) stages.silent;
+              stage = subst (λ x. Shown x None None None) (sym (ap (λ r. r.stage) (wiped_at silent _ (record_place line.plan i s) h.broadcasts at))) stages.silent;
               rows = record {
-                echo = λ j below. wiped_at None _ _ h.bodies ((laid line.plan).echo_inside (place line.plan i s) j at below);
-                ready = λ j below. wiped_at None _ _ h.bodies ((laid line.plan).ready_inside (place line.plan i s) j at below);
+                echo = λ j below. wiped_at None _ _ h.bodies ((laid line.plan).echo_inside (record_place line.plan i s) j at below);
+                ready = λ j below. wiped_at None _ _ h.bodies ((laid line.plan).ready_inside (record_place line.plan i s) j at below);
               };
             };
         fresh = λ i k lt used. refl;

@@ -66,8 +66,8 @@ module _ (line : Line) where
 
   module _ (capacity : ℕ) (coin : Coin) where
     -- a run of the machine that comes along
-    pub along : (es : List Event) (h : Held) (ws : List Message) → Run line capacity coin es h ws → (st : State) × machine.Run (world_of line) st × Shows line coin es h ws st
-    along _ _ _ (begun h large) = (start, machine.begun, at_start line h large coin)
+    pub along : (es : List Event) (h : Held) (ws : List Message) → Run line capacity coin es h ws → (st : State) × machine.Reachable (world_of line) st × Shows line coin es h ws st
+    along _ _ _ (begun h large) = (start, machine.initially, at_start line h large coin)
     along _ _ _ (after {es} {h} {next} {ws} {left} run e happens) =
         let before = along es h ws run in
         let now = follow line capacity coin es h ws before.0 before.2 e next left happens in
@@ -111,7 +111,7 @@ module _ (line : Line) where
     pub decided_exactly : (es : List Event) (h : Held) (ws : List Message) → Run line capacity coin es h ws → (i c : ℕ) (v : Side) (k : ℕ) → Decided es i c v k ↔ (decision_of es i c ≡ Some (record { side = v; phase = k }))
     decided_exactly es h ws run i c v k = (first_stands i c es v k, stands_first i c es (thirds es h ws run i c) (record { side = v; phase = k }))
 
-  module _ (coin : Coin) (es : List Event) (h : Held) (ws : List Message) (st : State) (run : machine.Run (world_of line) st) (shows : Shows line coin es h ws st) (first : (i c : ℕ) → Correct line i → FirstOf i c es) (exactly : (i c : ℕ) (v : Side) (k : ℕ) → Decided es i c v k ↔ (decision_of es i c ≡ Some (record { side = v; phase = k }))) where
+  module _ (coin : Coin) (es : List Event) (h : Held) (ws : List Message) (st : State) (run : machine.Reachable (world_of line) st) (shows : Shows line coin es h ws st) (first : (i c : ℕ) → Correct line i → FirstOf i c es) (exactly : (i c : ℕ) (v : Side) (k : ℕ) → Decided es i c v k ↔ (decision_of es i c ≡ Some (record { side = v; phase = k }))) where
     abbrev n : ℕ
     n = line.plan.n
 
@@ -121,7 +121,7 @@ module _ (line : Line) where
     all : broadcasts.Broadcasts (world_of line) st
     all = theorem.broadcasts (world_of line) lawful st run
 
-    rests : Quiet line ws → broadcasts.Quiet (world_of line) st
+    rests : Quiet line ws → broadcasts.QuietIn (world_of line) st
     rests quiet i c = shows.mirrors.waits (addressed i) ∙ quiet i c
 
     -- one case of the plan

@@ -117,7 +117,7 @@ abbrev done : Mine
 done = record { body = Some 5; round = 7; decision = Some (record { side = Release; phase = 1 }) }
 
 computed : seen end ≡ record { waiting = []; fit = true; zeroth = done; first = done; second = done }
-unfolding plays drained all_fit to_all marked message handled below count step_by tally lowest ballots_at ballots.valid_by_counting ballots.after
+unfolding plays drained all_fit to_all marked message handled below count step_by tally lowest ballots_at ballots.valid_by_counting ballots.allowed_after
 computed = refl
 
 run : Run line 32 coin end.events end.held []

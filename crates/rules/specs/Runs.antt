@@ -1,4 +1,4 @@
--- Runs: turns one after another, from the cleared memory and the empty carrier that opening leaves. Assumes nothing.
+-- Runs: turns one after another, from the cleared memory and the empty carrier that opening leaves.
 use Rattle.std.specs.Prelude.{◌≡◌, ℕ, ◌+◌, ◌*◌, Bool, true, ◌⊎◌, List, [], ◌∷◌, length, Some, Option}
 use Rattle.protocol.specs.Bags.{Same}
 use Rattle.protocol.specs.Numbers.{ballot_number, vote}
@@ -10,7 +10,7 @@ use Rattle.plan.specs.Kinds.{Line}
 use Rattle.memory.specs.Contents.{Held, cleared, case_at, serial_at}
 use Rattle.memory.specs.Places.{enough}
 use Rattle.cases.specs.Steps.{round_at, step_at, GoesBy}
-use Rattle.cases.specs.declared.steps.Step.{Step}
+use Rattle.cases.specs.declared.steps.Progress.{Progress}
 use Rattle.rules.specs.Turns.{Turn, Announce, Open, Forge, Deliver, Advance, Coin, refusal, reacted, announcing, opening, forging, delivering, advancing, Refused, Done}
 
 -- a turn with what came of it: its refusal, or what it answered, and the message that a delivery took
@@ -56,7 +56,7 @@ module _ (line : Line) (capacity : ℕ) (h : Held) (ws : List Message) where
 
   -- the process goes on by the ballots of the lowest originators
   pub record Advances (coin : Coin) (i c r : ℕ) (forced decides : Option Side) (reached posted : ℕ) (after : Held) (left : List Message) : Type 0 where
-    pub step : Step
+    pub step : Progress
     pub by : step_at line.plan h i c ≡ Some step
     pub from : r ≡ round_at line.plan h i c
     -- the set of ballots that it goes by, and the rule: the step is what this set says, forces and decides

@@ -1,4 +1,4 @@
--- What a turn does to memory and to what waits, and when it is refused. Assumes nothing.
+-- What a turn does to memory and to what waits, and when it is refused.
 use Rattle.std.specs.Prelude.{◌≡◌, ℕ, ◌+◌, ◌*◌, ◌/◌, Bool, true, cond, not, ◌||◌, List, [], ◌∷◌, ◌++◌, length, Some, None, Option, ◌==◌, nat_le, nat_lt}
 use Rattle.protocol.specs.Bags.{Same, waiting_for}
 use Rattle.protocol.specs.Messages.{originator_of}
@@ -24,7 +24,7 @@ use Rattle.broadcast.specs.Receiving.{Outcome, outcome, received}
 use Rattle.broadcast.specs.Stages.{nothing}
 use Rattle.broadcast.specs.declared.reactions.Reaction.{Reaction}
 use Rattle.cases.specs.Steps.{round_at, may_advance}
-use Rattle.cases.specs.declared.steps.Step.{Step}
+use Rattle.cases.specs.declared.steps.Progress.{Progress}
 
 -- what a coin shows a process in a phase of a case
 abbrev pub Coin : Type 0
@@ -162,7 +162,7 @@ module _ (line : Line) (h : Held) where
   delivering m = effect (reacted line m h).held (replies line.plan.n m (reacted line m h).reaction)
 
   -- The process leaves round r by a step. The phase of a third round is a third of its number, and the coin shows a side for it.
-  abbrev pub advancing : (coin : Coin) (i c r : ℕ) → Step → Effect
+  abbrev pub advancing : (coin : Coin) (i c r : ℕ) → Progress → Effect
   advancing coin i c r step =
       effect (moved line i c (r + 1) (decision_after (case_at h (case_place line.plan i c)).decision step.decides (r / 3)) h) (sent_for line (subject_after line i c r) (said step.next (coin i c (r / 3))))
 

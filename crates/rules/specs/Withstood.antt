@@ -1,4 +1,4 @@
--- A run that withstands a faulty process. Assumes nothing.
+-- A run that withstands a faulty process.
 use Rattle.std.specs.Prelude.{◌≡◌, ℕ, ◌<◌, true, List}
 use Rattle.protocol.specs.Messages.{message}
 use Rattle.protocol.specs.declared.messages.Message.{Message}

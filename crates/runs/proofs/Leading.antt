@@ -1,4 +1,4 @@
--- Turns one after another. Assumes nothing.
+-- Turns one after another.
 use Rattle.std.proofs.Common.{◌≡◌, ℕ, ◌+◌, ◌<◌, ◌≤◌, List, [], ◌∷◌, map, reverse, length, Option, get_or, take, sym, refl, ap, ◌∙◌, subst, ⊎_elim}
 use mathlib.Core.List.{map-append, reverse-append}
 use Rattle.std.proofs.lemmas.List.{take_more, take_all}

@@ -1,4 +1,4 @@
--- What making a turn does, from the event that happened. Assumes nothing.
+-- What making a turn does, from the event that happened.
 use Rattle.std.proofs.Common.{◌≡◌, ℕ, List, Err, Result, sym, refl, ap, ◌∙◌, subst}
 use Rattle.std.specs.Result.{IsErrAnd}
 use Rattle.std.proofs.lemmas.Result.{err_from_is_err_and}

@@ -1,4 +1,4 @@
--- What making one turn does: an event of the rules happens. Assumes nothing.
+-- What making one turn does: an event of the rules happens.
 use Rattle.std.specs.Prelude.{◌≡◌, ℕ, List, Some, Ok, Err, Result, OnOk}
 use Rattle.protocol.specs.declared.messages.Message.{Message}
 use Rattle.protocol.specs.declared.refusals.Refusal.{Refusal}
@@ -6,7 +6,7 @@ use Rattle.plan.specs.Kinds.{Line}
 use Rattle.carrier.specs.Posting.{Posts, Exchanges}
 use Rattle.memory.specs.Contents.{Held}
 use Rattle.cases.specs.Steps.{step_at}
-use Rattle.cases.specs.declared.steps.Step.{Step}
+use Rattle.cases.specs.declared.steps.Progress.{Progress}
 use Rattle.rules.specs.Turns as rules
 use Rattle.rules.specs.Turns.{Coin, announcing, opening, forging, delivering, advancing}
 use Rattle.rules.specs.Runs.{Event, refused, announced, opened, forged, delivered, advanced, turn_of, Happens}
@@ -48,7 +48,7 @@ module _ {C : Type 0} (waiting : C → List Message) (posting : C → Message �
   Carried (opened i c v posted) before after = Posts posting before (opening line h i c v).sent after
   Carried (forged m posted) before after = Posts posting before (forging line h m).sent after
   Carried (delivered i pick m posted accepted) before after = Exchanges posting taking before i pick m (delivering line h m).sent after
-  Carried (advanced i c r forced decides reached posted) before after = (s : Step) × (step_at line.plan h i c ≡ Some s) × Posts posting before (advancing line h coin i c r s).sent after
+  Carried (advanced i c r forced decides reached posted) before after = (s : Progress) × (step_at line.plan h i c ≡ Some s) × Posts posting before (advancing line h coin i c r s).sent after
 
   -- the event happens, to memory and to the carrier
   pub record Occurs (capacity : ℕ) (e : Event) (before : C) (next : Held) (after : C) : Type 0 where

@@ -1,4 +1,4 @@
--- What making a list of turns does, from opening a line on. Assumes nothing.
+-- What making a list of turns does, from opening a line on.
 use Rattle.std.specs.Prelude.{◌≡◌, ℕ, ◌+◌, ◌≤◌, List, [], ◌∷◌, map, reverse, Some, Ok, Err, Option, Result}
 use Rattle.protocol.specs.declared.messages.Message.{Message}
 use Rattle.protocol.specs.declared.messages.Subject.{Subject}

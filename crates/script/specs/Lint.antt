@@ -8,11 +8,11 @@ use Rattle.grammar.specs.Grammar.{reading}
 use Rattle.protocol.specs.declared.refusals.Refusal.{Refusal}
 use Rattle.protocol.specs.declared.refusals.Refusal.TheVariants.{MemoryTooSmall, NotRead}
 use Rattle.protocol.specs.Refusals.{refusal_number}
-use Rattle.token.specs.declared.fault.Place.{Place}
+use Rattle.token.specs.declared.fault.Position.{Position}
 use Rattle.script.specs.declared.fault.ScriptFault.{ScriptFault}
 use Rattle.script.specs.declared.fault.ScriptFault.TheVariants.{Form as Unread, Refused}
 
-abbrev pub placed : List ℕ → Place → List ℕ
+abbrev pub placed : List ℕ → Position → List ℕ
 placed layer at =
     codes "(fault (layer " ++ (layer ++ (codes ") (line " ++ (decimal at.line ++ (codes ") (byte " ++ (decimal at.byte ++ codes "))")))))
 

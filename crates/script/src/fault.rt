@@ -6,7 +6,7 @@ ghost use Rattle.text.specs.Shown.{Appends};
 use grammar::FormFault;
 use protocol::Refusal;
 use text::{NoMemory, Text};
-use token::Place;
+use token::Position;
 
 /// Why a script, or a line of it, gets no other answer.
 #[derive(Clone, Copy, Debug, PartialEq, Eq)]
@@ -44,7 +44,7 @@ impl From<ScriptFault> for Refusal {
     }
 }
 
-fn put_place(text: Text, layer: &[u8], place: Place) -> Result<Text, NoMemory>
+fn put_place(text: Text, layer: &[u8], place: Position) -> Result<Text, NoMemory>
     ensures { Appends result text (placed layer.now place) }
 {
     let text = text.put(b"(fault (layer ")?.put(layer)?;

@@ -1,4 +1,4 @@
--- What a change of a slip's state leaves, and that a slip says the truth. Assumes nothing.
+-- What a change of a slip's state leaves, and that a slip says the truth.
 use Rattle.std.proofs.Common.{◌≡◌, ℕ, Bool, true, false, not, ltb, length, set, Some, None, Ok, Option, refl, ap, ◌∙◌, arith, length-set, get_or-set_same}
 use Rattle.std.proofs.lemmas.Bool.{both_ways, and_parts, and_from, cond-true, ltb-true, lt-ltb, le-leb}
 use Rattle.protocol.specs.declared.refusals.Refusal.{Refusal}

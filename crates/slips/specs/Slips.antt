@@ -1,4 +1,4 @@
--- When slips are issued and given back, and what that does. Assumes nothing.
+-- When slips are issued and given back, and what that does.
 use Rattle.std.specs.Prelude.{◌≡◌, ℕ, Bool, true, false, ◌&&◌, List, Some, None, Ok, Err, Option, Result, nat_lt}
 use Rattle.protocol.specs.declared.messages.Message.{Message}
 use Rattle.protocol.specs.declared.refusals.Refusal.{Refusal}

@@ -7,8 +7,8 @@ abbrev pub shown : Text → List ℕ
 shown t = vec_items t.bytes
 
 -- how many bytes it can hold before it has to ask the heap again
-abbrev pub room : Text → ℕ
-room t = vec_capacity t.bytes
+abbrev pub text_room : Text → ℕ
+text_room t = vec_capacity t.bytes
 
 -- the answer, where memory did not run out, is the text with these bytes behind it
 abbrev pub Appends : Result Text NoMemory → Text → List ℕ → Type 0

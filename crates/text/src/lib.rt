@@ -3,7 +3,7 @@
 #![tactic(auto)]
 
 ghost use Rattle.std.specs.Prelude.{◌≡◌, [], ◌++◌, ◌<◌, ◌≤◌, length, decimal, IfOk, OnErr};
-ghost use Rattle.text.specs.Shown.{shown, room, Appends};
+ghost use Rattle.text.specs.Shown.{shown, text_room, Appends};
 
 use std::alloc::{AllocError, Global};
 use std::error::Error;
@@ -62,8 +62,8 @@ impl Text {
     /// Adds bytes. It fails only where the text has no room for them and the heap gives it none.
     pub fn put(mut self, more: &[u8]) -> Result<Text, NoMemory>
         ensures text { Appends result self more.now }
-        ensures full { OnErr result (room self < length (shown self ++ more.now)) }
-        ensures room { IfOk result (λ t. room self ≤ room t) }
+        ensures full { OnErr result (text_room self < length (shown self ++ more.now)) }
+        ensures room { IfOk result (λ t. text_room self ≤ text_room t) }
     {
         self.bytes.extend_from_slice(more).map_err(NoMemory)?;
         Ok(self)
@@ -72,8 +72,8 @@ impl Text {
     /// Adds a number in decimal, and fails as `put` does.
     pub fn put_number(self, n: u64) -> Result<Text, NoMemory>
         ensures text { Appends result self (decimal n) }
-        ensures full { OnErr result (room self < length (shown self ++ decimal n)) }
-        ensures room { IfOk result (λ t. room self ≤ room t) }
+        ensures full { OnErr result (text_room self < length (shown self ++ decimal n)) }
+        ensures room { IfOk result (λ t. text_room self ≤ text_room t) }
     {
         self.put(itoa::Buffer::new().format(n).as_bytes())
     }
@@ -81,8 +81,8 @@ impl Text {
     /// Adds words and a number behind them, and fails as `put` does.
     pub fn put_field(self, words: &[u8], n: u64) -> Result<Text, NoMemory>
         ensures text { Appends result self (words.now ++ decimal n) }
-        ensures full { OnErr result (room self < length (shown self ++ (words.now ++ decimal n))) }
-        ensures room { IfOk result (λ t. room self ≤ room t) }
+        ensures full { OnErr result (text_room self < length (shown self ++ (words.now ++ decimal n))) }
+        ensures room { IfOk result (λ t. text_room self ≤ text_room t) }
     {
         self.put(words)?.put_number(n)
     }

@@ -2,7 +2,7 @@
 use Rattle.std.specs.Prelude.{◌≡◌, ℕ, ◌+◌, cond, List, [], ◌∷◌, ◌++◌, length, Some, None, Ok, Err, Option, Result}
 use Rattle.std.specs.List.{concat}
 use Rattle.token.specs.declared.cursor.Cursor.{Cursor}
-use Rattle.token.specs.declared.fault.Place.{Place}
+use Rattle.token.specs.declared.fault.Position.{Position}
 use Rattle.token.specs.declared.fault.TokenFault.{TokenFault}
 use Rattle.token.specs.declared.lex.Token.{Token}
 use Rattle.token.specs.Tokens.{pieces, behind, lawful, spelling, Suits}
@@ -15,15 +15,15 @@ left c = pieces c.rest.now
 abbrev pub unread : Cursor → List ℕ
 unread c = concat (left c)
 
-abbrev pub here : Cursor → Place
+abbrev pub here : Cursor → Position
 here c = c.place
 
 -- a place some bytes on
-abbrev pub onward : Place → ℕ → Place
-onward p n = record { line = p.line; byte = p.byte + n }
+abbrev pub bytes_on : Position → ℕ → Position
+bytes_on p n = record { line = p.line; byte = p.byte + n }
 
 -- at a place, with these tokens left: none, the first, or a fault where it is not lawful
-abbrev pub scanned : Place → List (List ℕ) → Result (Option (List ℕ)) TokenFault
+abbrev pub scanned : Position → List (List ℕ) → Result (Option (List ℕ)) TokenFault
 scanned at [] = Ok None
 scanned at (p ∷ ps) = cond (lawful p) (Ok (Some p)) (Err (record { place = at }))
 

@@ -40,11 +40,11 @@ spanning [] = 0
 spanning (b ∷ bs) = suc (running b bs)
 
 -- the number that digits write, digit by digit
-abbrev pub pushed : ℕ → ℕ → ℕ
-pushed n d = n * 10 + (d - 48)
+abbrev pub with_digit : ℕ → ℕ → ℕ
+with_digit n d = n * 10 + (d - 48)
 
 abbrev pub worth : List ℕ → ℕ
-worth ds = fold pushed 0 ds
+worth ds = fold with_digit 0 ds
 
 abbrev pub below64 : ℕ → Option ℕ
 below64 n = cond (nat_lt n (2 ^ 64)) (Some n) None

@@ -1,19 +1,19 @@
 ghost use Rattle.std.specs.Prelude.{◌≡◌, ◌+◌, ◌^◌, ◌<◌, length};
 ghost use Rattle.token.specs.Tokens.{pieces};
 
-use crate::fault::{Place, TokenFault};
+use crate::fault::{Position, TokenFault};
 use crate::lex::{Token, first_token};
 
 /// What is left of a script's line, and the place of its next token.
 #[derive(Drop)]
 pub struct Cursor<'a> {
     rest: &'a [u8],
-    place: Place,
+    place: Position,
     ghost fits: { place.byte + length rest.now < 2 ^ 64 },
 }
 
 impl<'a> Cursor<'a> {
-    ghost use Rattle.token.specs.Scan.{left, unread, here, onward};
+    ghost use Rattle.token.specs.Scan.{left, unread, here, bytes_on};
     ghost use Rattle.token.specs.Scan.{scanned, spelled, taken, remaining, Apt, Cuts};
 
     /// The beginning of a line, whose number in its script is `number`, counted from 1.
@@ -24,7 +24,7 @@ impl<'a> Cursor<'a> {
     {
         Cursor {
             rest: line,
-            place: Place {
+            place: Position {
                 line: number,
                 byte: 1,
             },
@@ -32,7 +32,7 @@ impl<'a> Cursor<'a> {
     }
 
     /// The place of the next token's first byte, or one past the line's end.
-    pub fn place(&self) -> Place
+    pub fn place(&self) -> Position
         ensures { result ≡ here self.now }
     {
         self.place
@@ -43,7 +43,7 @@ impl<'a> Cursor<'a> {
     pub fn next_token(&mut self) -> Result<Option<Token<'a>>, TokenFault>
         ensures value { spelled result ≡ scanned (here self.old) (left self.old) }
         ensures kind { Apt result }
-        ensures place { here self.new ≡ onward (here self.old) (taken result) }
+        ensures place { here self.new ≡ bytes_on (here self.old) (taken result) }
         ensures tokens { left self.new ≡ remaining result (left self.old) }
         ensures whole { Cuts result (unread self.old) (unread self.new) }
     {

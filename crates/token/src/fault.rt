@@ -1,6 +1,6 @@
 /// A place in a script.
 #[derive(Clone, Copy, PartialEq, Eq, Debug)]
-pub struct Place {
+pub struct Position {
     /// The number of the line in its script, from 1.
     pub line: u64,
     /// The number of the byte on that line, from 1. One past the last byte is the line's end.
@@ -12,5 +12,5 @@ pub struct Place {
 #[derive(Clone, Copy, PartialEq, Eq, Debug)]
 pub struct TokenFault {
     /// Where its first byte stands.
-    pub place: Place,
+    pub place: Position,
 }

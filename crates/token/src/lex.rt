@@ -1,6 +1,6 @@
 ghost use Rattle.std.specs.Prelude.{◌≡◌, length};
 ghost use Rattle.std.specs.List.{take_while};
-ghost use Rattle.token.specs.Tokens.{spelling, below64, pushed, worth, number_of, joins, spanning, Lexed, First};
+ghost use Rattle.token.specs.Tokens.{spelling, below64, with_digit, worth, number_of, joins, spanning, Lexed, First};
 
 /// One token. A word and a number borrow their bytes from the line.
 #[derive(Clone, Copy, Debug, PartialEq, Eq)]
@@ -58,7 +58,7 @@ fn span(rest: &[u8]) -> usize
 
 // A number with one digit more, if that is below 2^64.
 fn push_digit(n: u64, digit: u8) -> Option<u64>
-    ensures { result ≡ below64 (pushed n digit) }
+    ensures { result ≡ below64 (with_digit n digit) }
 {
     n.checked_mul(10)?
         .checked_add(u64::from(digit.saturating_sub(b'0')))

@@ -7,5 +7,5 @@ mod fault;
 mod lex;
 
 pub use cursor::Cursor;
-pub use fault::{Place, TokenFault};
+pub use fault::{Position, TokenFault};
 pub use lex::Token;

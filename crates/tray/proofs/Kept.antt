@@ -1,4 +1,4 @@
--- Laws of the messages in the places of a table. Assumes nothing.
+-- Laws of the messages in the places of a table.
 use Rattle.std.proofs.Common.{◌≡◌, ℕ, zero, suc, ◌+◌, ◌<◌, ◌≤◌, Bool, true, false, not, cond, List, [], ◌∷◌, length, get_or, set, Some, None, Option, sym, refl, ap, ◌∙◌, ⊎_elim, arith}
 use Rattle.std.specs.Option.{IsSome}
 use Rattle.std.specs.List.{count_by, position, position_or_len}

@@ -1,4 +1,4 @@
--- What posting and taking below do to both layers. Assumes nothing.
+-- What posting and taking below do to both layers.
 use Rattle.std.proofs.Common.{◌≡◌, ℕ, ◌+◌, ◌≤◌, List, ◌++◌, length, Ok, Err, Result, ap, arith, length-append}
 use Rattle.protocol.specs.declared.messages.Message.{Message}
 use Rattle.protocol.specs.declared.refusals.Refusal.{Refusal}

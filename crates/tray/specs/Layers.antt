@@ -1,4 +1,4 @@
--- What waits in a table together with what waits below. Assumes nothing.
+-- What waits in a table together with what waits below.
 use Rattle.std.specs.Prelude.{ℕ, ◌+◌, ◌≤◌, List, [], ◌∷◌, ◌++◌, length, take, Some, None, Option}
 use Rattle.std.proofs.Common.{arith, length-append, length-take}
 use Rattle.protocol.specs.declared.messages.Message.{Message}

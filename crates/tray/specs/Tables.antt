@@ -1,4 +1,4 @@
--- The messages in the places of a table. Assumes nothing.
+-- The messages in the places of a table.
 use Rattle.std.specs.Prelude.{ℕ, Bool, false, not, List, [], ◌∷◌, ◌++◌, take, is_some, Some, None, Option}
 use Rattle.protocol.specs.declared.messages.Message.{Message}
 use Rattle.protocol.specs.Bags.{addressed}

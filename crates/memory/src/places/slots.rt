@@ -1,6 +1,6 @@
 // Finding the places of a subject and of a case.
 ghost use Rattle.std.specs.Prelude.{◌≡◌, ◌<◌, true};
-ghost use Rattle.memory.specs.Places.{within, number, place, placed, place_of, case_place_of, Laid};
+ghost use Rattle.memory.specs.Places.{within, subject_number, record_place, record_places, place_of, case_place_of, Laid};
 
 use crate::places::Place;
 use plan::Plan;
@@ -35,7 +35,7 @@ pub fn place_of(plan: &Plan, process: u64, subject: Subject) -> Option<Place>
 fn locate(plan: &Plan, process: u64, subject: Subject) -> Place
     requires process { process < plan.now.n }
     requires subject { within plan.now subject ≡ true }
-    ensures { result ≡ placed plan.now (place plan.now process subject) }
+    ensures { result ≡ record_places plan.now (record_place plan.now process subject) }
 {
     let n = plan.n();
     let subjects = plan.serials() + plan.rounds() * plan.cases();
@@ -53,7 +53,7 @@ fn locate(plan: &Plan, process: u64, subject: Subject) -> Place
 // The subject's number among those of its originator.
 fn number_of(plan: &Plan, subject: Subject) -> u64
     requires { within plan.now subject ≡ true }
-    ensures { result ≡ number plan.now subject }
+    ensures { result ≡ subject_number plan.now subject }
 {
     match subject {
         Subject::Item { serial, .. } => serial,

@@ -1,12 +1,12 @@
 use crate::tests::{accepted, assert_same};
-use cases::{Step, next_step};
+use cases::{Progress, next_step};
 use memory::{CaseRecord, Memory};
 use plan::Plan;
 use protocol::{Ballot, Side};
 use std::test::Fail;
 
 // A process that is alone has accepted its release, its release again and its proposal.
-fn step_from(round: u8) -> Result<Option<Step>, Fail> {
+fn step_from(round: u8) -> Result<Option<Progress>, Fail> {
     let plan = Plan::new(1, 0, 0, 1, 1)?;
     let memory = Memory {
         broadcasts: &mut [accepted(1), accepted(1), accepted(3)],
@@ -20,8 +20,8 @@ fn step_from(round: u8) -> Result<Option<Step>, Fail> {
     Ok(next_step(&plan, &memory, 0, 0))
 }
 
-fn says(ballot: Ballot) -> Step {
-    Step {
+fn says(ballot: Ballot) -> Progress {
+    Progress {
         next: Some(ballot),
         forced: None,
         decides: None,
@@ -31,7 +31,7 @@ fn says(ballot: Ballot) -> Step {
 #[test]
 fn one_process_decides_in_a_phase(rt: HostRuntime) -> Result<(), Fail> {
     let release = Some(Side::Release);
-    let decided = Step {
+    let decided = Progress {
         forced: release,
         decides: release,
         ..says(Ballot::Release)

@@ -3,20 +3,20 @@ use Rattle.protocol.specs.Numbers.{vote}
 use Rattle.protocol.specs.declared.votes.Side.TheVariants.{Keep, Release}
 use Rattle.item.specs.Records.{recorded}
 use Rattle.cases.specs.Steps.{step_by}
-use Rattle.worked.specs.Rows.{Holds, third}
+use Rattle.worked.specs.Rows.{RowHolds, third}
 use Rattle.worked.proofs.worked_rows.Goals as goal
 
-decide : Holds (third 4 1 3 0 (λ v. Some (vote v)) Some Some)
+decide : RowHolds (third 4 1 3 0 (λ v. Some (vote v)) Some Some)
 unfolding step_by
 decide Keep = refl
 decide Release = refl
 
-force : Holds (third 4 1 2 1 (λ v. Some (vote v)) Some (λ _. None))
+force : RowHolds (third 4 1 2 1 (λ v. Some (vote v)) Some (λ _. None))
 unfolding step_by
 force Keep = refl
 force Release = refl
 
-toss : Holds (third 4 1 1 2 (λ _. None) (λ _. None) (λ _. None))
+toss : RowHolds (third 4 1 1 2 (λ _. None) (λ _. None) (λ _. None))
 unfolding step_by
 toss Keep = refl
 toss Release = refl

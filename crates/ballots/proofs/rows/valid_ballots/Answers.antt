@@ -2,7 +2,7 @@ use Rattle.std.proofs.Common.{◌≡◌, ◌-◌, true, ap, ◌∙◌, arith}
 use Rattle.memory.specs.Contents.{held}
 use Rattle.protocol.specs.Phases.{kind}
 use Rattle.ballots.specs.Places.{covers}
-use Rattle.ballots.specs.Votes.{after, valid_by_counting}
+use Rattle.ballots.specs.Votes.{allowed_after, valid_by_counting}
 use Rattle.ballots.proofs.Reading.{next_row, last_row, valid_row, covered}
 use Rattle.ballots.proofs.rows.valid_ballots.Goals as goal
 
@@ -12,7 +12,7 @@ loop-before-init c = c.sifted_row-row.ensures
 
 pub loop-before-preserved : goal.loop-before-preserved
 loop-before-preserved c =
-    next_row c.args.plan.now (held c.args.memory.now) c.args.process c.args.case c.loop-before.before c.loop-before.row _ c.allowed_after-allowed.result (omega arith) c.loop-before.invariant (c.allowed_after-allowed.ensures ∙ ap (after c.args.plan.now.n c.args.plan.now.t (kind (c.loop-before.before - 1))) c.count.ensures) c.sifted_row-row-in-loop-before.ensures
+    next_row c.args.plan.now (held c.args.memory.now) c.args.process c.args.case c.loop-before.before c.loop-before.row _ c.allowed_after-allowed.result (omega arith) c.loop-before.invariant (c.allowed_after-allowed.ensures ∙ ap (allowed_after c.args.plan.now.n c.args.plan.now.t (kind (c.loop-before.before - 1))) c.count.ensures) c.sifted_row-row-in-loop-before.ensures
 
 pub returns : goal.returns
 returns c =

@@ -1,6 +1,6 @@
 use Rattle.std.proofs.Common.{◌≡◌, ℕ, ◌+◌, ◌*◌, ◌≤◌, arith}
 use Rattle.std.proofs.lemmas.Nat.{mul-le}
-use Rattle.memory.specs.Places.{place}
+use Rattle.memory.specs.Places.{record_place}
 use Rattle.memory.proofs.Grid.{records_few, inside}
 use Rattle.memory.proofs.places.slots.locate.Goals as goal
 
@@ -9,7 +9,7 @@ at c = (c.args.process * c.n-n.result + c.originator.result) * (c.serials.result
 
 few : (c : goal.After-number_of-number) → at c ≤ 106496
 few c =
-    let same : at c ≡ place c.args.plan.now c.args.process c.args.subject = cc in
+    let same : at c ≡ record_place c.args.plan.now c.args.process c.args.subject = cc in
     omega (arith, same, inside c.args.plan.now c.args.process c.args.subject c.requires.process c.requires.subject, records_few c.args.plan.now)
 
 row : (c : goal.After-number_of-number) → 2 * c.n-n.result * at c ≤ 32 * 106496

@@ -5,7 +5,7 @@ use Rattle.ballots.specs.Places.{accepted_within, ballots_at}
 use Rattle.ballots.specs.Votes.{sifted}
 use Rattle.ballots.proofs.Arrays.{array_holds}
 use Rattle.ballots.proofs.Reading.{accepted_within_lem, none_behind}
-use Rattle.ballots.proofs.rows.Accepted.sifted_row.Goals as goal
+use Rattle.ballots.proofs.rows.AcceptedBallots.sifted_row.Goals as goal
 
 pub returns : goal.returns
 returns c =
