@@ -110,7 +110,7 @@ module _ (n t : ℕ) where
       let o = n - t - k - r in
       proposals_draw k r o (omega arith) (omega arith) (omega arith) (omega arith) (inr (both_sides (λ u. part (some_proposals k r o) (proposal u) ≤ t) (omega arith) (omega arith), (v, refl)))
 
-  -- The side that is forced takes its own proposals first. One lemma for both sides is no shorter: the order of taking differs.
+  -- The side that is forced takes its own proposals first.
   drawn_third : (c : ByBallot ℕ) (b : Ballot) → part (allowed_after n t Third c) b ≡ true → Draw n t Third c (ballot_number b)
   unfolding allowed_after some_proposals
   drawn_third c Keep e = ⊎_elim forced (λ x. tossed_third c side.Keep (leb-true _ _ x)) (or_cases _ _ e)

@@ -56,7 +56,8 @@ module _ (plan : Plan) (h : Held) (i c : ℕ) where
   abbrev valid : ℕ → ℕ → Option Ballot
   valid r = valid_by_counting plan.n plan.t (ballots_at plan h i c) r
 
-  -- a round of the loop: the row of round r is counted, and what it allows is sifted from the round after
+  -- a round of the loop: the row of round r is counted, and what it allows is sifted from the round
+  -- after
   pub next_row :
       (r : ℕ) (before row : List (Option Ballot)) (allowed : ByBallot Bool)
       → 1 ≤ r

@@ -9,8 +9,8 @@ ghost use Rattle.protocol.specs.Bags.{waiting_for};
 
 use protocol::{Message, PROCESSES, Refusal};
 
-/// Messages on their way. A carrier is what it answers and does by its four calls; the ghost members
-/// say what these rest on.
+/// Messages on their way. A carrier is what it answers and does by its four calls; the ghost
+/// members say what these rest on.
 pub trait Carrier {
     // The messages that wait. Repeats count, the order does not.
     ghost waiting: { Self → List Message };

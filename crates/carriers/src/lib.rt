@@ -1,5 +1,5 @@
-//! Three carriers over lent memory, a place for each message: they differ in which message they take.
-//! And a layer over any carrier that remembers which message was taken last.
+//! Three carriers over lent memory, a place for each message: they differ in which message they
+//! take. And a layer over any carrier that remembers which message was taken last.
 #![tactic(auto)]
 
 pub mod choices;

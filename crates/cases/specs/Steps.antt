@@ -102,7 +102,8 @@ pub record Says (n t : ℕ) (G : BallotMap) (q : ℕ) (S : ℕ → Bool) (s : Pr
   -- in other rounds nothing is forced or decided
   pub elsewhere : (kind q ≡ Third → ⊥) → (s.forced ≡ None) × (s.decides ≡ None)
 
--- S is of the lowest that have a valid ballot of round q in G: who has one and is not in S is above all in S
+-- S is of the lowest that have a valid ballot of round q in G: who has one and is not in S is above
+-- all in S
 abbrev pub OfLowest : ℕ → ℕ → BallotMap → ℕ → (ℕ → Bool) → Type 0
 OfLowest n t G q S = (j k b : ℕ) → S j ≡ true → S k ≡ false → Valid n t G q k b → j < k
 

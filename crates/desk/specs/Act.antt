@@ -1,4 +1,5 @@
--- What one turn does where the messages that wait stand in order of age and the one that is picked is taken.
+-- What one turn does where the messages that wait stand in order of age and the one that is picked
+-- is taken.
 use Rattle.std.specs.Prelude.{ℕ, ◌+◌, List, ◌++◌, length, Some, None, Ok, Err, Option, Result}
 use Rattle.protocol.specs.declared.messages.Message.{Message}
 use Rattle.protocol.specs.declared.refusals.Refusal.{Refusal}
@@ -21,7 +22,8 @@ pub record Acted : Type 0 where
 abbrev pub acted : Result Answer Refusal → Held → List Message → Acted
 acted r h ws = record { answer = r; memory = h; waiting = ws }
 
--- what a turn does, with an answer that is told how many messages are sent: these wait behind the others
+-- what a turn does, with an answer that is told how many messages are sent: these wait behind the
+-- others
 abbrev pub does : Effect → List Message → (ℕ → Answer) → Acted
 does e ws answer = acted (Ok (answer (length e.sent))) e.held (ws ++ e.sent)
 

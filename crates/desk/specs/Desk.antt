@@ -89,7 +89,8 @@ module _ (h : Held) (ws : List Message) where
   opens_planned (Err e) ms = line_made (Err e) h
   opens_planned (Ok plan) ms = opens_marked plan (marking plan 0 ms)
 
-  -- a line of n processes of which t may be faulty and these are, with 2 serials, 1 case and 3 phases
+  -- a line of n processes of which t may be faulty and these are, with 2 serials, 1 case and 3
+  -- phases
   unfoldable pub opens : ℕ → ℕ → List ℕ → LineMade
   opens n t ms = opens_planned (planned n t 2 1 3) ms
 

@@ -18,8 +18,8 @@ use Rattle.desk.specs.declared.said.Said.{Said}
 use Rattle.desk.specs.declared.said.Said.TheVariants.{Opened}
 use Rattle.desk.specs.Desk.{AtDesk, desk, keeping, marking, asks, answered}
 
--- The line that a form asks for: the plan is that of its numbers with 2 serials, 1 case and 3 phases,
--- and its marks were made one after another.
+-- The line that a form asks for: the plan is that of its numbers with 2 serials, 1 case and 3
+-- phases, and its marks were made one after another.
 pub record AsksFor (l : LineForm) (line : Line) : Type 0 where
   pub plan : planned l.counters l.tolerate 2 1 3 ≡ Ok line.plan
   pub marks : marking line.plan 0 l.strange ≡ Ok line.marks
@@ -53,7 +53,8 @@ module _ (capacity : ℕ) where
     pub run : Run line capacity keeping es h ws
     pub promises : Promises line keeping es h ws
 
-  -- these events, the newest first, led to the desk as it stands; with no line open nothing was told
+  -- these events, the newest first, led to the desk as it stands; with no line open nothing was
+  -- told
   abbrev pub StandsAt : Option Line → Held → List Message → List Event → Type 0
   StandsAt None h ws es = es ≡ []
   StandsAt (Some line) h ws es = KeptOn line h ws es

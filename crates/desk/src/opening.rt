@@ -28,7 +28,8 @@ fn draft_marked(plan: Plan, marks: &Marks) -> Result<Draft, Refusal>
     Ok(draft)
 }
 
-// Makes the plan of a form for a line, marks its processes and opens the line. Another form is out of place.
+// Makes the plan of a form for a line, marks its processes and opens the line. Another form is out
+// of place.
 pub(crate) fn open(memory: &mut Memory, basket: &Basket, form: Form) -> Result<Line, Refusal>
     ensures { opened result (held memory.new) ≡ opens_by (held memory.old) (waiting_in basket.now) form }
 {

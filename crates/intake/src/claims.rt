@@ -20,8 +20,8 @@ const VOTES: [(u64, Ballot); 3] = [
     (2, Ballot::Release),
 ];
 
-// What the faulty process says to whom, in which round and with which ballot. In the first round it tells two votes and
-// helps one of them on, in the third it does so with two proposals.
+// What the faulty process says to whom, in which round and with which ballot. In the first round it
+// tells two votes and helps one of them on, in the third it does so with two proposals.
 const LIES: [(u64, Step, u64, Ballot); 15] = [
     (0, Step::Initial, 1, Ballot::Keep),
     (1, Step::Initial, 1, Ballot::Keep),
@@ -40,8 +40,8 @@ const LIES: [(u64, Step, u64, Ballot); 15] = [
     (2, Step::Echo, 3, Ballot::ProposeRelease),
 ];
 
-// Who is served first, which message is picked each time and how many at most, so that the counters come to different
-// ballots. Then all are served in turn.
+// Who is served first, which message is picked each time and how many at most, so that the counters
+// come to different ballots. Then all are served in turn.
 const VISITS: [(u64, u64, u64); 9] = [
     (2, OLDEST, ALL),
     (1, OLDEST, ALL),

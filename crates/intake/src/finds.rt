@@ -7,8 +7,9 @@ use line::announce;
 use protocol::{Refusal, Step, Subject};
 use reading::read;
 
-// What the faulty process says to whom, of which item and with which shelf: originator and serial are the third and the
-// fourth number. Of its own first item it tells two stories and helps one of them on, of its second it tells three.
+// What the faulty process says to whom, of which item and with which shelf: originator and serial
+// are the third and the fourth number. Of its own first item it tells two stories and helps one of
+// them on, of its second it tells three.
 const FORGED: [(u64, Step, u64, u64, u64); 13] = [
     (0, Step::Echo, 0, 0, 14),
     (1, Step::Echo, 0, 0, 41),

@@ -1,5 +1,5 @@
-//! Tells the way of a violin over a line of four counters, of which one is strange, to its release after a case about it.
-//! Writes to standard output.
+//! Tells the way of a violin over a line of four counters, of which one is strange, to its release
+//! after a case about it. Writes to standard output.
 #![tactic(auto)]
 
 mod claims;

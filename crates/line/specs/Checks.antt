@@ -8,7 +8,8 @@ use Rattle.plan.specs.Kinds.{Line}
 use Rattle.carrier.specs.Waiting.{free_in}
 use Rattle.rules.specs.Turns.{room_for_ballot}
 
--- the answer to a row of tests: all hold, and the rest says whether the call is refused; or the first that does not hold
+-- the answer to a row of tests: all hold, and the rest says whether the call is refused; or the
+-- first that does not hold
 abbrev pub TestsAnswer : Result (Unit {0}) Refusal → (Option Refusal → Option Refusal) → Type 0
 TestsAnswer (Ok _) tests = (rest : Option Refusal) → tests rest ≡ rest
 TestsAnswer (Err e) tests = (rest : Option Refusal) → tests rest ≡ Some e

@@ -33,7 +33,8 @@ abbrev pub OpensLine : Draft → Held → List Message → Result Line (Refusal 
 OpensLine draft h ws (Ok line) after = LineOpened draft h ws line after
 OpensLine draft h ws (Err refused) after = LineNotOpened draft h ws refused.0 refused.1 after
 
--- A run begins with this memory and an empty carrier, and after every run on the line, with whatever coin, the promises hold.
+-- A run begins with this memory and an empty carrier, and after every run on the line, with
+-- whatever coin, the promises hold.
 pub record Begins (capacity : ℕ) (line : Line) (h : Held) : Type 0 where
   pub run : (coin : Coin) → Run line capacity coin [] h []
   pub kept : (coin : Coin) → PromisesKept line capacity coin

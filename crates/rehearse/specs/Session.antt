@@ -17,8 +17,8 @@ module _ (places : ℕ) where
     at_end : {d : AtDesk} {es : List Event} {n : ℕ} → Session d es n [] []
     -- a line that does not read gets its fault: nothing is told, and nothing changes
     not_read : {d : AtDesk} {es : List Event} {n : ℕ} {line : List ℕ} {ls : List (List ℕ)} {rs : List (Result Said ScriptFault)} (e : ScriptFault) → checked n line ≡ Err e → Session d es (n + 1) ls rs → Session d es n (line ∷ ls) (Err e ∷ rs)
-    -- The form of a line is acted on. What was told so far led to the desk as it then stands, and so the
-    -- promises hold.
+    -- The form of a line is acted on. What was told so far led to the desk as it then stands, and
+    -- so the promises hold.
     form_read : {d after : AtDesk} {es new : List Event} {n : ℕ} {line : List ℕ} {ls : List (List ℕ)} {r : Result Said Refusal} {rs : List (Result Said ScriptFault)} (f : Form) → checked n line ≡ Ok f → ActedOn places d f r after new → Stands places after (new ++ es) → Session after (new ++ es) (n + 1) ls rs → Session d es n (line ∷ ls) (refused_as_fault r ∷ rs)
 
 -- the text of replies, each on a line
@@ -26,7 +26,8 @@ abbrev pub printed : List (Result Said ScriptFault) → List ℕ
 printed [] = []
 printed (r ∷ rs) = told said_text r ++ (10 ∷ printed rs)
 
--- The text is that of the replies of a session, one for each line, from a desk with no line open on.
+-- The text is that of the replies of a session, one for each line, from a desk with no line open
+-- on.
 pub record Rehearsal (s text : List ℕ) : Type 0 where
   pub replies : List (Result Said ScriptFault)
   pub shows : text ≡ printed replies

@@ -40,10 +40,10 @@ impl Responder for Rehearser<'_> {
     }
 }
 
-/// Acts on a script line by line: each line gets the answer of its form, or its fault.
-/// The memory is for five processes, and the basket, which is empty, has 400 places. From the form
-/// that opens a line on, the answers are those of a run, and the promises hold behind each. A script
-/// of more than 4,096 bytes is refused whole (2). It fails only where the heap gives no memory.
+/// Acts on a script line by line: each line gets the answer of its form, or its fault. The memory
+/// is for five processes, and the basket, which is empty, has 400 places. From the form that opens
+/// a line on, the answers are those of a run, and the promises hold behind each. A script of more
+/// than 4,096 bytes is refused whole (2). It fails only where the heap gives no memory.
 pub fn rehearse(heap: Global, input: &[u8]) -> Result<Text, NoMemory>
     ensures value { IfOk result (λ t. shown t ≡ rehearsed input.now) }
     ensures law { IfOk result (λ t. length input.now ≤ 4096 → Rehearsal input.now (shown t)) }

@@ -24,7 +24,8 @@ abbrev pub pushed : Result (Unit {0}) Refusal → List Message → Message → L
 pushed (Ok _) ms m = ms ++ (m ∷ [])
 pushed (Err e) ms m = ms
 
--- where number k, from 0, of the messages for a process stands; behind all of them if there are not so many
+-- where number k, from 0, of the messages for a process stands; behind all of them if there are not
+-- so many
 unfoldable pub place : ℕ → ℕ → List Message → ℕ
 place process k [] = 0
 place process zero (m ∷ ms) = cond (addressed process m) 0 (suc (place process zero ms))

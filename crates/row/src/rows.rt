@@ -56,8 +56,8 @@ impl<'a> Row<'a> {
         u32::try_from(self.count_for(process)).unwrap_or(u32::MAX)
     }
 
-    /// Adds a message behind the others. Refused where no place is free (13), and then the row is as
-    /// it was, in every place.
+    /// Adds a message behind the others. Refused where no place is free (13), and then the row is
+    /// as it was, in every place.
     pub fn post(&mut self, message: Message) -> Result<(), Refusal>
         ensures room { room self.new ≡ room self.old }
         ensures posted { Posted result message (room self.old) (listed self.old) (listed self.new) }
@@ -97,8 +97,8 @@ impl<'a> Row<'a> {
     }
 
     /// Takes that number, from 0, of the messages for a process, the oldest first. The others keep
-    /// their order. Refused where there are not so many (8), and then the row is as it was, in every
-    /// place.
+    /// their order. Refused where there are not so many (8), and then the row is as it was, in
+    /// every place.
     pub fn take(&mut self, process: u64, number: u64) -> Result<Message, Refusal>
         ensures room { room self.new ≡ room self.old }
         ensures answer { result ≡ answer_at process number (listed self.old) }

@@ -1,4 +1,5 @@
--- The ballots that a process has accepted, in memory and as the machine of broadcasts has them; case records that change.
+-- The ballots that a process has accepted, in memory and as the machine of broadcasts has them;
+-- case records that change.
 use Rattle.std.proofs.Common.{◌≡◌, ℕ, suc, ◌<◌, Bool, true, false, cond, ◌&&◌, eqb, List, ◌∷◌, get_or, Some, None, Option, sym, refl, ◌∙◌, subst, arith, length-set, get_or-set_other, get_or-set_same}
 use Rattle.std.proofs.lemmas.Bool.{both_ways, and_from, and_right, eq-eqb, ne_eqb, cond-true, cond-false}
 use Rattle.protocol.specs.declared.messages.Subject.{Subject}

@@ -1,4 +1,5 @@
--- Opening a case and advancing tell a ballot in the machine of broadcasts; asides leave it where it is.
+-- Opening a case and advancing tell a ballot in the machine of broadcasts; asides leave it where it
+-- is.
 use Rattle.std.proofs.Common.{◌≡◌, ℕ, suc, ◌+◌, ◌-◌, ◌*◌, ◌/◌, ◌<◌, ◌≤◌, true, false, ◌&&◌, eqb, ltb, List, ◌∷◌, ◌++◌, length, get_or, Some, None, Option, sym, refl, ap, ◌∙◌, subst, subst₂, ⊎_elim, arith}
 use Rattle.std.proofs.lemmas.Bool.{eqb-true, and_parts, ltb-true, ltb-false, cond-true, cond-false, cases_Bool}
 use Rattle.protocol.specs.Bags.{count, Same}

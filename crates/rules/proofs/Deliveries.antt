@@ -1,4 +1,5 @@
--- A message that reaches a correct process does in memory what it does in the machine of broadcasts.
+-- A message that reaches a correct process does in memory what it does in the machine of
+-- broadcasts.
 use Rattle.std.proofs.Common.{◌≡◌, ℕ, ◌+◌, ◌-◌, ◌<◌, ◌≤◌, true, false, ◌&&◌, eqb, ◌≢◌, ◌⊎◌, List, length, get_or, Some, None, Option, sym, refl, ap, ◌∙◌, subst, subst₂, inl, inr, ⊎_elim, arith, length-set, get_or-set_other, get_or-set_same}
 use Rattle.std.proofs.lemmas.Bool.{both_ways, eqb-true, eq-eqb, and_parts, and_from, lt-ltb, cond-true, cond_both}
 use Rattle.protocol.specs.Messages.{originator_of}

@@ -52,8 +52,8 @@ line = record { plan = plan; marks = 0; state = record {}; few = none_marked; in
 abbrev coin : Coin
 coin process case phase = Release
 
--- Memory where bodies were accepted for the first subjects, the next one is at a stage, with what was heard of it, and as
--- many more as `left` says are untouched.
+-- Memory where bodies were accepted for the first subjects, the next one is at a stage, with what
+-- was heard of it, and as many more as `left` says are untouched.
 abbrev records : List ℕ → Stage → ℕ → List BroadcastRecord
 records [] stage left = record { stage = stage } ∷ replicate left silent
 records (b ∷ bs) stage left = record { stage = Accepted b } ∷ records bs stage left
@@ -77,7 +77,8 @@ module _ (bs : List ℕ) (left serial round : ℕ) (decision : Option Decision) 
   abbrev accepted : ℕ → Held
   accepted b = memory (Accepted b) (Some b) (Some b)
 
--- what comes of a turn: whether it is refused, what memory then holds, what is sent, and whether a body is accepted
+-- what comes of a turn: whether it is refused, what memory then holds, what is sent, and whether a
+-- body is accepted
 record Deed : Type 0 where
   refused : Option Refusal
   held : Held

@@ -1,4 +1,5 @@
--- What a message makes of the record that a process keeps of a subject, in memory and in the machine of broadcasts.
+-- What a message makes of the record that a process keeps of a subject, in memory and in the
+-- machine of broadcasts.
 use Rattle.std.proofs.Common.{◌≡◌, ℕ, ◌+◌, ◌<◌, ◌≤◌, false, eqb, leb, List, length, get_or, Some, None, Option, sym, refl, ap, ◌∙◌, subst, inl, arith}
 use Rattle.std.proofs.lemmas.Bool.{both_ways, leb-true, le-leb}
 use Rattle.protocol.specs.Heard.{has}

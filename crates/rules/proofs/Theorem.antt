@@ -107,7 +107,8 @@ module _ (line : Line) where
     thirds _ _ _ (aside {es} {h} {next} {ws} run same) i c r f v t = thirds es h ws run i c r f v t
     thirds _ _ _ (after {es} {h} {next} {ws} {left} run e happens) i c r f v t = ⊎_elim (third_left h ws e next left happens i c r f v) (thirds es h ws run i c r f v) t
 
-    -- Of a run, the first decision that is told is the one that stands when its events are added up.
+    -- Of a run, the first decision that is told is the one that stands when its events are added
+    -- up.
     pub decided_exactly : (es : List Event) (h : Held) (ws : List Message) → Run line capacity coin es h ws → (i c : ℕ) (v : Side) (k : ℕ) → Decided es i c v k ↔ (decision_of es i c ≡ Some (record { side = v; phase = k }))
     decided_exactly es h ws run i c v k = (first_stands i c es v k, stands_first i c es (thirds es h ws run i c) (record { side = v; phase = k }))
 

@@ -24,8 +24,8 @@ Correct line i = CorrectOf line.plan.n (faulty line) i
 abbrev pub Quiet : Line → List Message → Type 0
 Quiet line ws = QuietOf line.plan.n (faulty line) ws
 
--- Process i cannot go on in case c: it has not opened it or has ended it, or no n - t ballots of its round are valid at it.
--- Rounds count from 0 in a set.
+-- Process i cannot go on in case c: it has not opened it or has ended it, or no n - t ballots of
+-- its round are valid at it. Rounds count from 0 in a set.
 abbrev pub Stuck : Line → Held → ℕ → ℕ → Type 0
 Stuck line h i c = (r : ℕ) (S : ℕ → Bool) → round_at line.plan h i c ≡ suc r → r < rounds line.plan → Quorum line.plan.n line.plan.t (ballots_at line.plan h i c) r S → ⊥
 
@@ -34,7 +34,8 @@ pub record AtRest (line : Line) (h : Held) (ws : List Message) : Type 0 where
   pub quiet : Quiet line ws
   pub stuck : (i c : ℕ) → Correct line i → c < line.plan.cases → Stuck line h i c
 
--- The code counts valid ballots. By this count a correct process may not advance exactly where it is stuck.
+-- The code counts valid ballots. By this count a correct process may not advance exactly where it
+-- is stuck.
 abbrev pub CountsRightly : Line → Held → Type 0
 CountsRightly line h = (i c : ℕ) → Correct line i → c < line.plan.cases → (may_advance line.plan h i c ≡ false) ↔ Stuck line h i c
 
@@ -58,12 +59,14 @@ pub record Completeness (line : Line) (es : List Event) : Type 0 where
   -- Each of them has ended every case that all of them opened.
   pub ended : (c : ℕ) → ((o : ℕ) → Correct line o → (v : Side) × Opened es o c v) → (i : ℕ) → Correct line i → Ended es i c line.plan.phases
 
--- If a phase forces no correct process, or only to the side that the coin shows each of them in this phase, then each
--- that ends the next phase has decided this side, in that phase at the latest.
+-- If a phase forces no correct process, or only to the side that the coin shows each of them in
+-- this phase, then each that ends the next phase has decided this side, in that phase at the
+-- latest.
 abbrev pub Luck : Line → Coin → List Event → Type 0
 Luck line coin es = (c k : ℕ) (v : Side) → 1 ≤ k → ((o : ℕ) → Correct line o → coin o c k ≡ v) → ((o : ℕ) (u : Side) → Correct line o → Forced es o c k u → u ≡ v) → (i : ℕ) → Correct line i → Ended es i c (k + 1) → (l : ℕ) × (l ≤ k + 1) × Decided es i c v l
 
--- What memory has as accepted and as decided by a correct process, and the round that it has it in, are what the run tells of it.
+-- What memory has as accepted and as decided by a correct process, and the round that it has it in,
+-- are what the run tells of it.
 pub record Recorded (line : Line) (es : List Event) (h : Held) : Type 0 where
   pub kept : (s : Subject) (i b : ℕ) → Correct line i → Accepted es i s b → body_at line.plan h i s ≡ Some b
   pub only : (s : Subject) (i b : ℕ) → Correct line i → within line.plan s ≡ true → body_at line.plan h i s ≡ Some b → Accepted es i s b
@@ -86,9 +89,10 @@ pub record Promises (line : Line) (coin : Coin) (es : List Event) (h : Held) (ws
 abbrev pub PromisesKept : Line → ℕ → Coin → Type 0
 PromisesKept line capacity coin = (es : List Event) (h : Held) (ws : List Message) → Run line capacity coin es h ws → Promises line coin es h ws
 
--- What can come about. Process 0, at rest, has announced and accepted an item. Each correct process has opened a case, was
--- forced in its first phase to the side that the coin shows it, and to no other, and has ended the last phase, which is
--- the next. Process 0 has decided this side in the first phase.
+-- What can come about. Process 0, at rest, has announced and accepted an item. Each correct process
+-- has opened a case, was forced in its first phase to the side that the coin shows it, and to no
+-- other, and has ended the last phase, which is the next. Process 0 has decided this side in the
+-- first phase.
 pub record Happening (line : Line) (capacity : ℕ) (coin : Coin) (es : List Event) (h : Held) : Type 0 where
   pub run : Run line capacity coin es h []
   pub rest : AtRest line h []

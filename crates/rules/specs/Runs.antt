@@ -13,7 +13,8 @@ use Rattle.cases.specs.Steps.{round_at, step_at, GoesBy}
 use Rattle.cases.specs.declared.steps.Progress.{Progress}
 use Rattle.rules.specs.Turns.{Turn, Announce, Open, Forge, Deliver, Advance, Coin, refusal, reacted, announcing, opening, forging, delivering, advancing, Refused, Done}
 
--- a turn with what came of it: its refusal, or what it answered, and the message that a delivery took
+-- a turn with what came of it: its refusal, or what it answered, and the message that a delivery
+-- took
 pub data Event : Type 0 where
   refused : Turn → Refusal → Event
   announced : (process body serial posted : ℕ) → Event
@@ -59,7 +60,8 @@ module _ (line : Line) (capacity : ℕ) (h : Held) (ws : List Message) where
     pub step : Progress
     pub by : step_at line.plan h i c ≡ Some step
     pub from : r ≡ round_at line.plan h i c
-    -- the set of ballots that it goes by, and the rule: the step is what this set says, forces and decides
+    -- the set of ballots that it goes by, and the rule: the step is what this set says, forces and
+    -- decides
     pub set : ℕ → Bool
     pub law : GoesBy line.plan h i c set step
     pub forces : forced ≡ step.forced

@@ -46,7 +46,8 @@ faulty line i = marked line.marks i
 abbrev pub unless : Bool → Refusal → Option Refusal → Option Refusal
 unless test e rest = cond test rest (Some e)
 
--- The first tests of most calls, and then as the rest says: the memory is large enough, and the plan has the process;
+-- The first tests of most calls, and then as the rest says: the memory is large enough, and the
+-- plan has the process;
 abbrev pub process_tests : Line → Held → ℕ → Option Refusal → Option Refusal
 process_tests line h i rest = unless (enough line.plan h) MemoryTooSmall (unless (nat_lt i line.plan.n) ProcessOutOfRange rest)
 
@@ -71,7 +72,8 @@ abbrev pub delivery_tests : Line → ℕ → ℕ → List Message → Option Ref
 delivery_tests line i capacity ws =
     unless (nat_le 1 (waiting_for i ws)) NothingWaiting (unless (room_for_replies line i capacity ws) NoRoom None)
 
--- the subject of the ballot that a process sends after a round of a case: after the last round there is none
+-- the subject of the ballot that a process sends after a round of a case: after the last round
+-- there is none
 abbrev pub subject_after : Line → ℕ → ℕ → ℕ → Option Subject
 subject_after line i c r = cond (nat_lt r (rounds line.plan)) (Some (subject.Ballot i c (r + 1))) None
 
@@ -161,7 +163,8 @@ module _ (line : Line) (h : Held) where
   abbrev pub delivering : Message → Effect
   delivering m = effect (reacted line m h).held (replies line.plan.n m (reacted line m h).reaction)
 
-  -- The process leaves round r by a step. The phase of a third round is a third of its number, and the coin shows a side for it.
+  -- The process leaves round r by a step. The phase of a third round is a third of its number, and
+  -- the coin shows a side for it.
   abbrev pub advancing : (coin : Coin) (i c r : ℕ) → Progress → Effect
   advancing coin i c r step =
       effect (moved line i c (r + 1) (decision_after (case_at h (case_place line.plan i c)).decision step.decides (r / 3)) h) (sent_for line (subject_after line i c r) (said step.next (coin i c (r / 3))))

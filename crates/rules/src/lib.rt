@@ -14,8 +14,8 @@ ghost use Rattle.rules.specs.Runs.{Event};
 
 pub use answers::{Advanced, Announced, Delivered};
 
-/// After every run, for every coin: agreement and validity; at rest everything is accepted alike and
-/// every case that all opened has ended; a coin that shows what is forced decides.
+/// After every run, for every coin: agreement and validity; at rest everything is accepted alike
+/// and every case that all opened has ended; a coin that shows what is forced decides.
 pub fn runs_keep_promises()
     ensures { (line : Line) (capacity : ℕ) (coin : Coin) → PromisesKept line capacity coin }
 {}

@@ -41,7 +41,8 @@ answer_of (delivered i pick m posted accepted) = Ok (Delivered (record { posted 
 answer_of (advanced i c r forced decides reached posted) = Ok (Advanced (record { round = reached; posted = posted }))
 
 module _ {C : Type 0} (waiting : C → List Message) (posting : C → Message → C → Type 0) (taking : C → ℕ → ℕ → Message → C → Type 0) (line : Line) (coin : Coin) (h : Held) where
-  -- what the carrier says of the messages that an event posts, and of the one that it takes; a refused turn left it the same
+  -- what the carrier says of the messages that an event posts, and of the one that it takes; a
+  -- refused turn left it the same
   abbrev pub Carried : Event → C → C → Type 0
   Carried (refused turn e) before after = after ≡ before
   Carried (announced i b k posted) before after = Posts posting before (announcing line h i k b).sent after

@@ -34,19 +34,21 @@ pub record Values {I : Type 0} (packed : I → ℕ) (unpacked : ℕ → Option I
   -- At rest each of them has the value that one of them announced.
   pub announced : AtRest line h ws → (i j k b : ℕ) → Correct line i → Correct line j → Announced es i k b → (body_at line.plan h j (Item i k) ≡ Some b) × ((value : I) × IsOf packed unpacked b value)
 
--- A phase of a case that forces no correct process but to the side that a shared coin shows decides this side for each
--- correct process that ends the next phase, in that phase at the latest.
+-- A phase of a case that forces no correct process but to the side that a shared coin shows decides
+-- this side for each correct process that ends the next phase, in that phase at the latest.
 abbrev pub SharedLuck : Line → (ℕ → ℕ → Side) → List Event → Type 0
 SharedLuck line side es = (c k : ℕ) → 1 ≤ k → ((o : ℕ) (u : Side) → Correct line o → Forced es o c k u → u ≡ side c k) → (i : ℕ) → Correct line i → Ended es i c (k + 1) → (l : ℕ) × (l ≤ k + 1) × Decided es i c (side c k) l
 
 module _ {C : Type 0} (waiting : C → List Message) (posting : C → Message → C → Type 0) (taking : C → ℕ → ℕ → Message → C → Type 0) where
-  -- Events occur one after another, from memory `start` and carrier `from` on. Nothing stands between them.
+  -- Events occur one after another, from memory `start` and carrier `from` on. Nothing stands
+  -- between them.
   pub data Straight (line : Line) (capacity : ℕ) (coin : Coin) (start : Held) (from : C) : List Event → Held → C → Type 0 where
     at_opening : Straight line capacity coin start from [] start from
     one_more : {es : List Event} {h next : Held} {before after : C} → Straight line capacity coin start from es h before → (e : Event) → Occurs waiting posting taking line coin h capacity e before next after → Straight line capacity coin start from (e ∷ es) next after
 
 module _ {C I : Type 0} (waiting : C → List Message) (posting : C → Message → C → Type 0) (taking : C → ℕ → ℕ → Message → C → Type 0) (ok : I → Type 0) (packed : I → ℕ) (unpacked : ℕ → Option I) where
-  -- these turns, one after another and with nothing between them, lead from a memory and a carrier to others
+  -- these turns, one after another and with nothing between them, lead from a memory and a carrier
+  -- to others
   pub record Led (line : Line) (capacity : ℕ) (coin : Coin) (turns : List (Turn I)) (start : Held) (from : C) (h : Held) (at : C) : Type 0 where
     pub events : List Event
     pub told : map turn_of events ≡ reverse (map (asked packed) turns)
@@ -54,8 +56,8 @@ module _ {C I : Type 0} (waiting : C → List Message) (posting : C → Message 
     -- what is announced is the body of a value
     pub fits : (i k b : ℕ) → Announced events i k b → (value : I) × ok value × (packed value ≡ b)
 
-  -- The draft was opened as the line over memory h and a carrier; every turn was then made on it and nothing else; and the
-  -- promises hold of the run that this was.
+  -- The draft was opened as the line over memory h and a carrier; every turn was then made on it
+  -- and nothing else; and the promises hold of the run that this was.
   pub record Made (draft : Draft) (capacity : ℕ) (coin : Coin) (h : Held) (before : C) (turns : List (Turn I)) (line : Line) (next : Held) (after : C) : Type 0 where
     pub start : Held
     pub opened : LineOpened draft h (waiting before) line start

@@ -59,8 +59,8 @@ impl Table {
         self.places.iter().position(|place| is_for(*place, process))
     }
 
-    /// Keeps the message in the first free place. Refused where none is free (13), and then the table
-    /// is as it was.
+    /// Keeps the message in the first free place. Refused where none is free (13), and then the
+    /// table is as it was.
     pub fn post(&mut self, message: Message) -> Result<(), Refusal>
         ensures posted { Posted result message 8 (kept self.old.places) (kept self.new.places) }
         ensures untouched { OnErr result (self.new ≡ self.old) }
@@ -70,8 +70,8 @@ impl Table {
         Ok(())
     }
 
-    /// Takes the message for the process that stands first. Refused where there is none (8), and then
-    /// the table is as it was.
+    /// Takes the message for the process that stands first. Refused where there is none (8), and
+    /// then the table is as it was.
     pub fn take(&mut self, process: u64) -> Result<Message, Refusal>
         ensures taken { Taken result process (kept self.old.places) (kept self.new.places) }
         ensures untouched { OnErr result (self.new ≡ self.old) }

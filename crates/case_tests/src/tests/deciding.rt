@@ -7,7 +7,8 @@ use std::process::Abort;
 use std::test::Fail;
 use tray::Tray;
 
-// Where everything is delivered before anybody advances, all go by the votes of the n - t lowest processes that vote.
+// Where everything is delivered before anybody advances, all go by the votes of the n - t lowest
+// processes that vote.
 fn decide_in_step<C: Carrier>(rt: &impl Abort, carrier: &mut C) -> Result<(), Fail> {
     let rows: [Row; 12] = [
         Row::new(0, &[KEEP], Some(Side::Keep)),

@@ -64,7 +64,8 @@ const LIES: [(Row, [Lie; 2]); 6] = [
     ),
 ];
 
-// Process 0 lies. A ballot of it that too few echo is accepted nowhere, and one that is not valid counts for nothing.
+// Process 0 lies. A ballot of it that too few echo is accepted nowhere, and one that is not valid
+// counts for nothing.
 #[test]
 fn lies_change_no_agreement(rt: HostRuntime) -> Result<(), Fail> {
     let coin = WordCoin::new(0);

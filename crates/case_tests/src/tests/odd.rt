@@ -14,7 +14,8 @@ type Answers = (
     Result<u64, Refusal>,
 );
 
-// A process alone, which has accepted release, release and its proposal. What memory holds of its case and serials is told.
+// A process alone, which has accepted release, release and its proposal. What memory holds of its
+// case and serials is told.
 fn run_alone<A, F>(case: CaseRecord, serial: u8, run: F) -> Result<A, Fail>
 where
     F: FnOnce(&mut Hall<Queue, WordCoin>) -> Result<A, Fail>,
@@ -69,8 +70,8 @@ fn stored_numbers_are_taken_as_they_are(rt: HostRuntime) -> Result<(), Fail> {
     Ok(())
 }
 
-// Before the case is opened there is a decision already, of a phase that the plan has not. Neither opening nor a later
-// decision changes it.
+// Before the case is opened there is a decision already, of a phase that the plan has not. Neither
+// opening nor a later decision changes it.
 #[test]
 fn the_stored_decision_stands(rt: HostRuntime) -> Result<(), Fail> {
     let early = Decision {

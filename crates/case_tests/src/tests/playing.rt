@@ -21,7 +21,8 @@ pub(crate) const FAULTY: Option<u64> = None;
 // A message of process 0 in case 0, of some round and step, with a body for each process.
 pub type Lie = (u64, Step, [u64; 4]);
 
-// How many processes may be faulty, what each process votes, and the side that is decided, where it is sure.
+// How many processes may be faulty, what each process votes, and the side that is decided, where it
+// is sure.
 #[derive(Clone, Copy)]
 pub(crate) struct Row<'v> {
     pub(crate) t: u64,
@@ -110,8 +111,8 @@ impl<'m, 'c, 'k, C: Carrier, K: Coin> Hall<'m, 'c, 'k, C, K> {
         Ok(())
     }
 
-    // Every correct process has ended the case of two phases, and no two decided differently. Where a decision is told,
-    // each decided so.
+    // Every correct process has ended the case of two phases, and no two decided differently. Where
+    // a decision is told, each decided so.
     pub(crate) fn check_end(&self, rt: &impl Abort, told: Option<Decision>) {
         let mut last: Option<Side> = None;
         for process in 0..self.line.plan().n() {

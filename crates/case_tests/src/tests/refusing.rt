@@ -71,8 +71,8 @@ fn opening_is_refused_in_order(rt: HostRuntime) {
     }
 }
 
-// Process 0 may advance from the first round and process 1 from the last, by the keeps and then three proposals of
-// keep that it accepted. Process 2 has not opened the case.
+// Process 0 may advance from the first round and process 1 from the last, by the keeps and then
+// three proposals of keep that it accepted. Process 2 has not opened the case.
 fn try_to_advance(
     serials: usize,
     free: usize,

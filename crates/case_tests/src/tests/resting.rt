@@ -21,7 +21,8 @@ fn repeat<F: FnMut() -> Result<bool, Fail>>(mut pass: F) -> Result<(), Fail>
 }
 
 impl<'m, 'c, 'k, C: Carrier, K: Coin> Hall<'m, 'c, 'k, C, K> {
-    // Delivers to each process what waits for it, but not more than `most`. Answers whether there was anything.
+    // Delivers to each process what waits for it, but not more than `most`. Answers whether there
+    // was anything.
     fn deliver_some(&mut self, most: u32) -> Result<bool, Refusal> {
         let mut any = false;
         for process in 0..self.line.plan().n() {

@@ -33,7 +33,8 @@ fn advance() -> Turn<Tag> {
     }
 }
 
-// A process alone announces an item, and goes through a case to its last round. The first turn is refused.
+// A process alone announces an item, and goes through a case to its last round. The first turn is
+// refused.
 fn turns(value: Tag) -> [Turn<Tag>; 17] {
     [
         deliver(),

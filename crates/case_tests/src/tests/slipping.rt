@@ -119,7 +119,8 @@ fn a_slip_that_was_put_back_is_issued_again(rt: HostRuntime) -> Result<(), Fail>
     Ok(())
 }
 
-// Tries to return the slip to a line whose case records all have this slip state. It comes back, and nothing changes.
+// Tries to return the slip to a line whose case records all have this slip state. It comes back,
+// and nothing changes.
 fn comes_back(
     rt: &impl Abort,
     plan: Plan,
@@ -177,7 +178,8 @@ fn a_slip_comes_back_from_another_line(rt: HostRuntime) -> Result<(), Fail> {
     Ok(())
 }
 
-// A slip is known by its numbers alone: where one with them is out it is taken, and nobody asks for the process's role.
+// A slip is known by its numbers alone: where one with them is out it is taken, and nobody asks for
+// the process's role.
 #[test]
 fn a_slip_is_taken_where_its_numbers_are_out(rt: HostRuntime) -> Result<(), Fail> {
     let plan = Plan::new(4, 1, 0, 1, 1)?;
@@ -200,7 +202,8 @@ fn a_slip_is_taken_where_its_numbers_are_out(rt: HostRuntime) -> Result<(), Fail
     Ok(())
 }
 
-// Two slips with the same numbers, of two memories. Where the first was given back, the second is refused and comes back.
+// Two slips with the same numbers, of two memories. Where the first was given back, the second is
+// refused and comes back.
 #[test]
 fn a_second_slip_in_a_row_comes_back(rt: HostRuntime) -> Result<(), Fail> {
     let line = Line::from(Draft::new(Plan::new(1, 0, 0, 1, 1)?));

@@ -10,9 +10,9 @@ use std::process::Abort;
 use std::test::Fail;
 
 impl<'m, 'c, 'k, C: Carrier, K: Coin> Hall<'m, 'c, 'k, C, K> {
-    // The votes are keep, keep, release, release. Processes 1 and 2 advance before process 0 votes, and so cast release.
-    // The others see all votes and cast keep. The second round is even, the third is open, and so every process tosses
-    // the coin.
+    // The votes are keep, keep, release, release. Processes 1 and 2 advance before process 0 votes,
+    // and so cast release. The others see all votes and cast keep. The second round is even, the
+    // third is open, and so every process tosses the coin.
     fn vote_unevenly(&mut self, rt: &impl Abort) -> Result<(), Fail> {
         for (process, vote) in [(1, 0), (2, 1), (3, 1)] {
             assert_same(rt, self.open_case(process, vote)?, 4);

@@ -12,7 +12,8 @@ use std::test::Fail;
 
 type Outcome = (Result<Advanced, Refusal>, Option<Decision>);
 
-// How process 0 of four goes on from a round. Of what it keeps of the case, three records are of each originator, one for a round.
+// How process 0 of four goes on from a round. Of what it keeps of the case, three records are of
+// each originator, one for a round.
 fn go_on(round: u8, mut records: [BroadcastRecord; 48]) -> Result<Outcome, Fail> {
     let line = Line::from(Draft::new(Plan::new(4, 1, 0, 1, 1)?));
     let mut places = [Message::BLANK; 4];
@@ -31,7 +32,8 @@ fn go_on(round: u8, mut records: [BroadcastRecord; 48]) -> Result<Outcome, Fail>
     Ok((answer, memory.case_record(0).decision))
 }
 
-// Three second-round keeps stand on a keep and two releases. No set allows them until another keep of the first round is accepted.
+// Three second-round keeps stand on a keep and two releases. No set allows them until another keep
+// of the first round is accepted.
 #[test]
 fn a_ballot_is_invalid_until_a_set_allows_it(rt: HostRuntime) -> Result<(), Fail> {
     let mut records = [BroadcastRecord::SILENT; 48];

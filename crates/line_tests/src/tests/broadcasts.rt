@@ -44,7 +44,8 @@ impl<'h, 'm, 'c, C: Carrier> Hall<'h, 'm, 'c, C> {
         Ok(())
     }
 
-    // The last process tells one of its own first item, and all faulty ones echo that. The initial comes after the echoes.
+    // The last process tells one of its own first item, and all faulty ones echo that. The initial
+    // comes after the echoes.
     fn tell_one(&mut self, addressee: u64, body: u64) -> Result<(), Refusal> {
         let plan = self.line.plan();
         let subject = item(plan.n() - 1, 0);
@@ -157,8 +158,9 @@ fn sixteen_processes_accept_alike(rt: HostRuntime) -> Result<(), Fail> {
     )
 }
 
-// What the faulty process 3 tells the processes 0 to 2 of its own item, 0 for nothing: initials, echoes and readies.
-// Then how many of them accept, and what each of them reads. With E = 3, R = 2 and A = 3 the order has no part in it.
+// What the faulty process 3 tells the processes 0 to 2 of its own item, 0 for nothing: initials,
+// echoes and readies. Then how many of them accept, and what each of them reads. With E = 3, R = 2
+// and A = 3 the order has no part in it.
 const STORIES: [([[u64; 3]; 3], u64, Reading<u64>); 8] = [
     // The correct processes need no help.
     ([[1, 1, 1], [0, 0, 0], [0, 0, 0]], 3, Reading::Value(1)),
@@ -242,8 +244,9 @@ fn a_faulty_originator_makes_no_difference(rt: HostRuntime) -> Result<(), Fail> 
     first_of_two_counts(&rt, memory, &mut Basket::new(places), 1, 2)
 }
 
-// The plan's n and t, and what the last process tells each of the n - t correct ones; the last t are faulty, and each of
-// them echoes to a process what that was told. Then how many processes accept, and what each of them reads.
+// The plan's n and t, and what the last process tells each of the n - t correct ones; the last t
+// are faulty, and each of them echoes to a process what that was told. Then how many processes
+// accept, and what each of them reads.
 const CAMPS: [(u64, u64, &[u64], u64, Reading<u64>); 9] = [
     // E = 3, R = 2: two and the faulty one are enough.
     (4, 1, &[1, 1, 2], 3, Reading::Value(1)),

@@ -61,8 +61,8 @@ fn what_lies_outside_the_plan_is_dropped(rt: HostRuntime) -> Result<(), Fail> {
     Ok(())
 }
 
-// The messages that process 2 gets about an item of process 0: sender, step and body. Then how many it posts, whether it
-// accepts, and how many bodies it has heard. Here E = 3, R = 2 and A = 3.
+// The messages that process 2 gets about an item of process 0: sender, step and body. Then how many
+// it posts, whether it accepts, and how many bodies it has heard. Here E = 3, R = 2 and A = 3.
 const LIFE: [(u64, Step, u64, u64, bool, usize); 20] = [
     (1, Step::Initial, 7, 0, false, 0),
     (0, Step::Initial, 7, 4, false, 0),
@@ -108,8 +108,8 @@ fn repeats_and_latecomers_change_nothing(rt: HostRuntime) -> Result<(), Fail> {
     Ok(())
 }
 
-// Every body place holds 7, and three serials are past the plan's only one. A stage, a message from process 0 to
-// process 1, how many that posts, whether it accepts, and what is read then.
+// Every body place holds 7, and three serials are past the plan's only one. A stage, a message from
+// process 0 to process 1, how many that posts, whether it accepts, and what is read then.
 const ODDITIES: [(Stage, Step, u64, u64, bool, Reading<u64>); 13] = [
     (Stage::Silent, Step::Initial, 8, 4, false, Reading::Nothing),
     (Stage::Silent, Step::Echo, 7, 8, false, Reading::Nothing),

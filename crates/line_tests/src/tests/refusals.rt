@@ -187,8 +187,8 @@ fn forging_is_for_faulty_senders_within_the_plan(rt: HostRuntime) -> Result<(), 
     Ok(())
 }
 
-// A ready waits for process 0 and one for the faulty process 3, which needs no room. `left` messages wait for it after it
-// took one.
+// A ready waits for process 0 and one for the faulty process 3, which needs no room. `left`
+// messages wait for it after it took one.
 fn delivers_in<C: Carrier>(
     rt: &impl Abort,
     memory: &mut Memory,
@@ -213,7 +213,8 @@ fn delivers_in<C: Carrier>(
     Ok(())
 }
 
-// All body places hold 7, so that one ready of 7 takes process 0 through all stages: 8 messages, 2 of them for process 3.
+// All body places hold 7, so that one ready of 7 takes process 0 through all stages: 8 messages, 2
+// of them for process 3.
 #[test]
 fn delivering_wants_room_for_two_to_each(rt: HostRuntime) -> Result<(), Fail> {
     let accepted = Delivered {

@@ -5,7 +5,8 @@ use plan::Plan;
 use protocol::{Ballot, PROCESSES};
 use std::test::Fail;
 
-// Process 0 has accepted a keep and three releases in the first round, and then two keeps, a release and an open.
+// Process 0 has accepted a keep and three releases in the first round, and then two keeps, a
+// release and an open.
 #[test]
 fn one_keep_of_four_votes_allows_no_keep(rt: HostRuntime) -> Result<(), Fail> {
     let plan = Plan::new(4, 1, 0, 1, 1)?;
