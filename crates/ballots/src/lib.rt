@@ -1,4 +1,4 @@
-// Which ballots of a case are valid at a process.
+//! Which ballots of a case are valid at a process.
 #![tactic(auto)]
 
 pub mod allowing;

@@ -1,4 +1,4 @@
-// What a message does at one process for one subject.
+//! What a message does at one process for one subject.
 #![tactic(auto)]
 
 pub mod reactions;

@@ -1,4 +1,4 @@
-// How a process goes on in a case, by the valid ballots of the round that it is in.
+//! How a process goes on in a case, by the valid ballots of the round that it is in.
 #![tactic(auto)]
 
 pub mod choosing;

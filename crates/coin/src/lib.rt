@@ -1,4 +1,4 @@
-// Coins that choose a side where the ballots force none.
+//! Coins that choose a side where the ballots force none.
 #![tactic(auto)]
 
 pub mod coins;

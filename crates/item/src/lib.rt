@@ -1,4 +1,4 @@
-// The values that a message's body can stand for.
+//! The values that a message's body can stand for.
 #![tactic(auto)]
 
 pub mod any_bodies;

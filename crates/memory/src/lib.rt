@@ -1,4 +1,4 @@
-// The memory of a line: four slices that the caller lends, and where in them each thing is kept.
+//! The memory of a line: four slices that the caller lends, and where in them each thing is kept.
 #![tactic(auto)]
 
 pub mod memories;

@@ -1,4 +1,4 @@
-// The plan of a line, its thresholds, and the marks on its faulty processes.
+//! The plan of a line, its thresholds, and the marks on its faulty processes.
 #![tactic(auto)]
 
 pub mod drafts;

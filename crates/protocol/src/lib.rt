@@ -1,4 +1,4 @@
-// What every crate speaks of: messages, ballots and refusals.
+//! What every crate speaks of: messages, ballots and refusals.
 #![tactic(auto)]
 
 pub mod messages;

@@ -1,4 +1,4 @@
-// Reading what a process has accepted.
+//! Reading what a process has accepted.
 #![tactic(auto)]
 
 ghost use Rattle.std.specs.Prelude.{◌≡◌};

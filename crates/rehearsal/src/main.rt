@@ -6,7 +6,6 @@ use script::LIMIT;
 use std::io;
 use std::io::{Read, Write};
 
-// As the main of lint: a helper would be handed the call and the runtime, and be as long.
 fn main(rt: HostRuntime) -> io::Result<()> {
     let heap = rt.alloc();
     let mut input = Vec::new(heap);

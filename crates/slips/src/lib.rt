@@ -1,4 +1,4 @@
-// Release slips: what a clerk hands over an item for.
+//! Release slips: what a clerk hands over an item for.
 #![tactic(auto)]
 
 pub mod giving_back;
