@@ -5,7 +5,7 @@ use Rattle.std.proofs.lemmas.Option.{cond_some}
 use Rattle.protocol.specs.Counting.{below}
 use Rattle.protocol.specs.Numbers.{ballot_number}
 use Rattle.protocol.specs.declared.votes.Ballot.{Ballot}
-use Rattle.protocol.proofs.Counting.{below_suc, below_zero, below_past, below_monotone}
+use Rattle.protocol.proofs.Counting.{below_suc, below_zero, below_past, below_grows, below_monotone}
 use Rattle.plan.specs.declared.plans.Plan.{Plan}
 use Rattle.memory.proofs.Counting.{count_places}
 use Rattle.memory.specs.Contents.{Held, case_at}
@@ -31,11 +31,6 @@ use Rattle.cases.proofs.Sides.{says}
 some_stands : (o : Option Ballot) → is_some o ≡ true → (b : Ballot) × (o ≡ Some b)
 some_stands None e = absurd cc
 some_stands (Some b) e = (b, refl)
-
-below_grows : (p : ℕ → Bool) (k j : ℕ) → k ≤ j → below k p ≤ below j p
-below_grows p k zero l = let is : k ≡ 0 = omega arith in omega (arith, ap (λ (m : ℕ). below m p) is)
-below_grows p k (suc j) l =
-    ⊎_elim (λ (x : k < suc j). omega (arith, below_grows p k j (omega arith), below_suc j p)) (λ (x : suc j ≤ k). let is : k ≡ suc j = omega arith in omega (arith, ap (λ (m : ℕ). below m p) is)) (cases_lt k (suc j))
 
 -- who passes the test and is not among the m lowest is above all of these
 above_lowest : (m : ℕ) (p : ℕ → Bool) (j k : ℕ) → lowest m p j ≡ true → lowest m p k ≡ false → p k ≡ true → j < k

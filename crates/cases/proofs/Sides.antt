@@ -1,6 +1,6 @@
--- What progress says of the counts that it was made by.
-use Rattle.std.proofs.Common.{◌≡◌, ℕ, ◌*◌, ◌<◌, ◌≤◌, ◌↔◌, Bool, true, false, cond, ltb, Some, None, Option, sym, refl, ap, subst, inl, inr, arith}
-use Rattle.std.proofs.lemmas.Bool.{ltb-true, ltb-false}
+-- What going on by counts says of them.
+use Rattle.std.proofs.Common.{◌≡◌, ℕ, ◌*◌, ◌<◌, ◌≤◌, ◌↔◌, Bool, true, false, cond, ltb, Some, None, Option, sym, refl, ap, ◌∙◌, subst, inl, inr, ⊎_elim, arith}
+use Rattle.std.proofs.lemmas.Bool.{cases_lt, ltb-true, ltb-false}
 use Rattle.std.proofs.lemmas.Bool.Decides.{nat_tests}
 use Rattle.protocol.specs.Numbers.{ballot_number, vote, proposal}
 use Rattle.protocol.specs.declared.votes.Side.{Side}
@@ -89,18 +89,12 @@ module _ (count : Ballot → ℕ) where
     next_undecided Second x e = absurd cc
     next_undecided Third x e = above_none (2 * t) e
 
-    next_elsewhere : (q : Kind) → (q ≡ Third → ⊥) → ((step_by n t q count).forced ≡ None) × ((step_by n t q count).decides ≡ None)
-    unfolding step_by
-    next_elsewhere First other = (refl, refl)
-    next_elsewhere Second other = (refl, refl)
-    next_elsewhere Third other = absurd (other refl)
-
   -- where no two sides are above a bound, the side that is told is the one that is
   told_exactly : (bound : ℕ) → ((u v : Side) → bound < count (proposal u) → bound < count (proposal v) → u ≡ v) → (o : Option Side) → ((u : Side) → o ≡ Some u → bound < count (proposal u)) → (o ≡ None → (u : Side) → count (proposal u) ≤ bound) → (v : Side) → bound < count (proposal v) → o ≡ Some v
   told_exactly bound alone None above none v l = absurd (omega (arith, none refl v))
   told_exactly bound alone (Some u) above none v l = ap Some (alone u v (above u refl) l)
 
--- the step of a full set says what the set says
+-- going on by a full set says what the set says
 module _ (n t : ℕ) (G : BallotMap) (q : ℕ) (S : ℕ → Bool) (full : Quorum n t G q S) where
   abbrev count_in : Ballot → ℕ
   count_in = tally n G q S
@@ -130,8 +124,18 @@ module _ (n t : ℕ) (G : BallotMap) (q : ℕ) (S : ℕ → Bool) (full : Quorum
     tossed = next_tossed count_in n t (kind q);
     forced = forced_exactly;
     forced_next = next_forced count_in n t (kind q);
-    unforced = next_unforced count_in n t (kind q);
+    unforced = λ third e. (next_unforced count_in n t (kind q) third e).1;
     decides = decides_exactly;
-    undecided = next_undecided count_in n t (kind q);
-    elsewhere = next_elsewhere count_in n t (kind q);
   }
+
+-- where no side is told, none has more proposals than the bound
+few_of : (o : Option Side) (third : Type 0) (bound : ℕ) (count : Side → ℕ) → third → ((v : Side) → (o ≡ Some v) ↔ (third × (bound < count v))) → o ≡ None → (v : Side) → count v ≤ bound
+few_of o third bound count x exactly none v =
+    ⊎_elim (λ (l : bound < count v). let told = (exactly v).1 (x, l) in let e : Some v ≡ None = sym told ∙ none in absurd cc) (λ (l : count v ≤ bound). l) (cases_lt bound (count v))
+
+module _ {n t q : ℕ} {G : BallotMap} {S : ℕ → Bool} {s : Progress} (is : Says n t G q S s) (third : kind q ≡ Third) where
+  pub few_forced : s.forced ≡ None → (v : Side) → tally n G q S (proposal v) ≤ t
+  few_forced none = few_of s.forced (kind q ≡ Third) t (λ v. tally n G q S (proposal v)) third is.forced none
+
+  pub few_decided : s.decides ≡ None → (v : Side) → tally n G q S (proposal v) ≤ 2 * t
+  few_decided none = few_of s.decides (kind q ≡ Third) (2 * t) (λ v. tally n G q S (proposal v)) third is.decides none

@@ -95,12 +95,10 @@ pub record Says (n t : ℕ) (G : BallotMap) (q : ℕ) (S : ℕ → Bool) (s : Pr
   -- a side is forced exactly where S forces it in a third round, and is then said next
   pub forced : (v : Side) → (s.forced ≡ Some v) ↔ ((kind q ≡ Third) × Forces t (tally n G q S) v)
   pub forced_next : (v : Side) → s.forced ≡ Some v → s.next ≡ Some (vote v)
-  pub unforced : kind q ≡ Third → s.forced ≡ None → ((v : Side) → tally n G q S (proposal v) ≤ t) × (s.next ≡ None)
+  -- in a third round that forces none, the coin is tossed
+  pub unforced : kind q ≡ Third → s.forced ≡ None → s.next ≡ None
   -- a side is decided exactly where S decides it in a third round
   pub decides : (v : Side) → (s.decides ≡ Some v) ↔ ((kind q ≡ Third) × DecidesFor t (tally n G q S) v)
-  pub undecided : kind q ≡ Third → s.decides ≡ None → (v : Side) → tally n G q S (proposal v) ≤ 2 * t
-  -- in other rounds nothing is forced or decided
-  pub elsewhere : (kind q ≡ Third → ⊥) → (s.forced ≡ None) × (s.decides ≡ None)
 
 -- S is of the lowest that have a valid ballot of round q in G: who has one and is not in S is above
 -- all in S

@@ -41,6 +41,12 @@ below_past zero n p l none = ap (λ (k : ℕ). below k p) (omega arith)
 below_past (suc m) n p l none =
     ⊎_elim (λ (x : m < n). let e : suc m ≡ n = omega arith in ap (λ (k : ℕ). below k p) e) (λ (x : n ≤ m). let f : ◌≡◌ {A = ℕ} (cond (p m) 1 0) 0 = ap (λ (z : Bool). cond z 1 0) (none m x) in omega (arith, below_suc m p, below_past m n p x none)) (cases_lt m n)
 
+-- more are counted below a larger number
+pub below_grows : (p : ℕ → Bool) (k j : ℕ) → k ≤ j → below k p ≤ below j p
+below_grows p k zero l = let is : k ≡ 0 = omega arith in omega (arith, ap (λ (m : ℕ). below m p) is)
+below_grows p k (suc j) l =
+    ⊎_elim (λ (x : k < suc j). omega (arith, below_grows p k j (omega arith), below_suc j p)) (λ (x : suc j ≤ k). let is : k ≡ suc j = omega arith in omega (arith, ap (λ (m : ℕ). below m p) is)) (cases_lt k (suc j))
+
 -- a test that passes wherever another does counts as many
 pub below_monotone : (n : ℕ) (p q : ℕ → Bool) → ((k : ℕ) → k < n → p k ≡ true → q k ≡ true) → below n p ≤ below n q
 unfolding below

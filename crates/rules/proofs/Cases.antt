@@ -20,6 +20,7 @@ use Rattle.ballots.specs.Places.{ballots_at}
 use Rattle.cases.specs.Steps.{round_at, Says}
 use Rattle.cases.specs.declared.steps.Progress.{Progress}
 use Rattle.agreement.specs.Runs.{State}
+use Rattle.cases.proofs.Sides.{few_forced, few_decided}
 use Rattle.rules.specs.Turns.{said, decision_after, Coin}
 use Rattle.rules.specs.Runs.{Event, opened, advanced, Told, Opening, Advancing}
 use Rattle.rules.proofs.Told.{decision_of}
@@ -151,7 +152,7 @@ module _ (line : Line) (coin : Coin) (es : List Event) (h : Held) (st : State) (
           forced x = inl (x.0, ((says.forced x.0).0 x.1).1, ap (λ o. ballot_number (said o (coin i c (suc q / 3)))) (says.forced_next x.0 x.1))
 
           free : step.forced ≡ None → Tossed t (tally n G q S) (coin i c (suc q / 3)) body
-          free e = let f = says.unforced third e in inr (f.0, ap (λ o. ballot_number (said o (coin i c (suc q / 3)))) f.1)
+          free e = inr (few_forced says third e, ap (λ o. ballot_number (said o (coin i c (suc q / 3)))) (says.unforced third e))
 
       left_now : Left n t G (coin i c (suc q / 3)) q (now.said (Ballot i c (suc (suc q)))) (ForcedAt later i c (suc q)) (DecidedAt later i c (suc q))
       left_now = record {
@@ -160,11 +161,11 @@ module _ (line : Line) (coin : Coin) (es : List Event) (h : Held) (st : State) (
         tossed = λ third b e. subst (λ x. Tossed t (tally n G q S) (coin i c (suc q / 3)) x) (sym (new b e)) (tossed third);
         forces = λ v x. ((says.forced v).0 (newest (Some v) x.0 x.1).0).1;
         forced_some = λ third v x.
-            ⊎_elim (λ y. (y.0, (step.decides, inl (refl, refl, refl, y.1, refl)))) (λ y. absurd (omega (arith, (says.unforced third y).0 v))) (told_side step.forced);
+            ⊎_elim (λ y. (y.0, (step.decides, inl (refl, refl, refl, y.1, refl)))) (λ y. absurd (omega (arith, few_forced says third y v))) (told_side step.forced);
         third = λ v x. ((says.decides v).0 (newest x.0 (Some v) x.1).1).0;
         decides = λ v x. ((says.decides v).0 (newest x.0 (Some v) x.1).1).1;
         decided_some = λ third v x.
-            ⊎_elim (λ y. (y.0, (step.forced, inl (refl, refl, refl, refl, y.1)))) (λ y. absurd (omega (arith, says.undecided third y v))) (told_side step.decides);
+            ⊎_elim (λ y. (y.0, (step.forced, inl (refl, refl, refl, refl, y.1)))) (λ y. absurd (omega (arith, few_decided says third y v))) (told_side step.decides);
       }
 
       pub case_advanced : CaseShown line coin later next now i c
