@@ -19,8 +19,7 @@ use Rattle.memory.specs.Contents.{Held, cleared, serial_at}
 use Rattle.memory.specs.Places.{enough}
 use Rattle.row.specs.Order.{answer_at, left_at, picked}
 use Rattle.row.proofs.Order as order
-use Rattle.cases.proofs.Going.{law}
-use Rattle.cases.specs.Steps.{round_at, may_advance, step_at, chosen}
+use Rattle.cases.specs.Steps.{round_at, may_advance, step_at}
 use Rattle.cases.specs.declared.steps.Progress.{Progress}
 use Rattle.line.specs.Opening.{open_refusal}
 use Rattle.line.proofs.Opened.{opened_idle}
@@ -37,6 +36,8 @@ use Rattle.desk.specs.declared.said.Said.{Said}
 use Rattle.desk.specs.Act.{Acted, takes, goes, doing, acting_by, act}
 use Rattle.desk.specs.Desk.{AtDesk, desk, DeskAfter, desk_after, keeping, past, marking, LineMade, line_made, opens_with, opens_marked, opens_planned, opens, asks, answered, turns, turned, begins, acts_at, acts}
 use Rattle.desk.specs.Telling.{AsksFor, no_plan, no_marks, not_opened, OpensNone, none_opened, line_opened, no_turn, by_turn, KeptOn, Tells}
+use Rattle.line.proofs.Taking.{passed}
+use Rattle.rules.proofs.Going.{goes_on}
 use Rattle.desk.proofs.Lines.{line_of_lem}
 
 -- what is done is what an event of the turn does that happens
@@ -74,17 +75,7 @@ module _ (line : Line) (coin : Coin) (h : Held) (ws : List Message) (capacity : 
     event = runs.advanced i c (round_at line.plan h i c) step.forced step.decides (round_at line.plan h i c + 1) _;
     told = refl;
     answer = refl;
-    happens = record {
-      step = step;
-      by = is;
-      from = refl;
-      set = chosen line.plan h i c;
-      law = (law line.plan h i c (Some step) (sym is)).goes step refl;
-      forces = refl;
-      decision = refl;
-      answer = refl;
-      done = done (advancing line h coin i c (round_at line.plan h i c) step) ws allowed;
-    };
+    happens = goes_on line capacity h ws coin i c step _ _ _ is (done (advancing line h coin i c (round_at line.plan h i c) step) ws allowed);
   }
   event_gone i c None allowed may is = absurd (let e : Some _ ≡ None = sym (cond-true (may_advance line.plan h i c) _ None may) ∙ is in cc)
 
@@ -114,11 +105,6 @@ module _ (line : Line) (coin : Coin) (h : Held) (ws : List Message) (capacity : 
   unfolding act
   of_event turn = event_by turn (refusal line capacity h ws turn) refl
 
--- a test that was passed
-passed : (b : Bool) (e : Refusal) (rest : Option Refusal) → cond b rest (Some e) ≡ None → b ≡ true
-passed true e rest x = refl
-passed false e rest x = absurd cc
-
 -- marks that were made one after another are those of a line: at most t, and all in the plan
 module _ (plan : Plan) where
   abbrev Lawful : ℕ → Type 0
@@ -142,9 +128,9 @@ module _ (plan : Plan) where
         let few : ones m < plan.t = leb-false plan.t (ones m) z in
         rest (bit_or m (2 ^ i)) (omega (arith, set_ones m i y), set_inside plan.n m i before.1 some) e
 
-  marks_lawful : (is : List ℕ) (m k : ℕ) → Lawful m → marking plan m is ≡ Ok k → Lawful k
-  marks_lawful [] m k before e = let same : m ≡ k = cc in subst Lawful same before
-  marks_lawful (i ∷ is) m k before e = one_more_mark m i is k before (λ j x. marks_lawful is j k x) e
+  marked_lawful : (is : List ℕ) (m k : ℕ) → Lawful m → marking plan m is ≡ Ok k → Lawful k
+  marked_lawful [] m k before e = let same : m ≡ k = cc in subst Lawful same before
+  marked_lawful (i ∷ is) m k before e = one_more_mark m i is k before (λ j x. marked_lawful is j k x) e
 
 module _ (capacity : ℕ) (h : Held) (ws : List Message) where
   -- at a desk with no line open
@@ -157,7 +143,7 @@ module _ (capacity : ℕ) (h : Held) (ws : List Message) where
 
     begun_on : (line : Line) → AsksFor l line → open_refusal line.plan h ws ≡ None → Begins (line_made (Ok line) (cleared line.plan h))
     begun_on line asked allowed =
-        let large : enough line.plan h ≡ true = passed (enough line.plan h) _ _ allowed in
+        let large : enough line.plan h ≡ true = (passed (enough line.plan h) _ _ allowed).0 in
         let run = subst (λ xs. Run line capacity keeping [] (cleared line.plan h) xs) (sym (opened_idle line.plan h ws allowed)) (begun h large) in
         record {
           told = [];
@@ -172,7 +158,7 @@ module _ (capacity : ℕ) (h : Held) (ws : List Message) where
     begins_marked : (plan : Plan) → planned l.counters l.tolerate 2 1 3 ≡ Ok plan → (r : Result ℕ Refusal) → marking plan 0 l.strange ≡ r → Begins (opens_marked h ws plan r)
     begins_marked plan p (Err e) q = tells_nothing _ e (no_marks plan p q)
     begins_marked plan p (Ok marks) q =
-        let fits = marks_lawful plan l.strange 0 marks (none_lawful plan) q in
+        let fits = marked_lawful plan l.strange 0 marks (none_lawful plan) q in
         let line : Line = record { plan = plan; marks = marks; state = record {}; few = fits.0; inside = fits.1 } in
         subst (λ (r : Result Line Refusal). Begins (opens_with h ws plan (open_refusal plan h ws) r)) (sym (line_of_lem line plan marks refl refl))
         (begins_by line (record { plan = p; marks = q }) (open_refusal plan h ws) refl)

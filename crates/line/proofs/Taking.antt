@@ -20,7 +20,7 @@ use Rattle.rules.specs.declared.answers.Delivered.{Delivered}
 use Rattle.line.specs.Sent.{Sent}
 
 -- a test that a call passed holds, and it passed the rest
-passed : (test : Bool) (e : Refusal) (rest : Option Refusal) → unless test e rest ≡ None → (test ≡ true) × (rest ≡ None)
+pub passed : (test : Bool) (e : Refusal) (rest : Option Refusal) → unless test e rest ≡ None → (test ≡ true) × (rest ≡ None)
 passed true e rest h = (refl, h)
 passed false e rest h = absurd (none-some e (sym h))
 

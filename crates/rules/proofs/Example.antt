@@ -31,12 +31,12 @@ use Rattle.ballots.specs.Votes as ballots
 use Rattle.consensus.specs.Rounds.{tally}
 use Rattle.consensus.specs.Validity.{lowest}
 use Rattle.cases.specs.Steps.{step_at, step_by, chosen}
-use Rattle.cases.proofs.Going.{law}
 use Rattle.cases.specs.declared.steps.Progress.{Progress}
 use Rattle.rules.specs.Turns as turns
 use Rattle.rules.specs.Turns.{refusal, reacted, replies, moved, said, decision_after, Coin}
 use Rattle.rules.specs.Runs.{Event, Run, begun, after, announced, opened, delivered, advanced, Told, Opening, Advancing, Opened, Forced, Ended}
 use Rattle.rules.specs.Promises.{Correct, Stuck, Happening}
+use Rattle.rules.proofs.Going.{goes_on}
 use Rattle.rules.proofs.Theorem.{kept}
 
 abbrev plan : Plan
@@ -147,17 +147,7 @@ gone r b step sent es = advanced 0 0 r step.forced step.decides (r + 1) (length 
 
 goes : (r b : ℕ) (bs : List ℕ) (left : ℕ) (decision : Option Decision) (step : Progress) (sent : List Message) (next : Held) (es : List Event) → Hearing (vote r) b bs left r decision → step_at plan (accepted bs left 1 r decision b) 0 0 ≡ Some step → going (accepted bs left 1 r decision b) r step ≡ done next sent false → Run line 3 coin es (untouched bs left 1 r decision) (letter Initial (vote r) b ∷ []) → Run line 3 coin (gone r b step sent es) next (sent ++ [])
 goes r b bs left decision step sent next es heard_it by e run =
-    after (hears_all (vote r) b bs left r decision es heard_it run) _ (record {
-      step = step;
-      by = by;
-      from = refl;
-      set = chosen plan (accepted bs left 1 r decision b) 0 0;
-      law = (law plan (accepted bs left 1 r decision b) 0 0 (Some step) (sym by)).goes step refl;
-      forces = refl;
-      decision = refl;
-      answer = refl;
-      done = did [] e;
-    })
+    after (hears_all (vote r) b bs left r decision es heard_it run) _ (goes_on line 3 (accepted bs left 1 r decision b) [] coin 0 0 step _ _ _ by (did [] e))
 
 abbrev votes : Progress
 votes = record { next = Some ballot.Release; forced = None; decides = None }

@@ -11,6 +11,7 @@ pub mod CaseSteps
 pub mod Steps
 pub mod Told
 pub mod Theorem
+pub mod Going
 pub mod Example
 pub mod Draining
 pub mod Playing

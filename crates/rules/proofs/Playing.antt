@@ -1,13 +1,13 @@
 -- A run goes on by making turns, each followed by delivering what waits then.
-use Rattle.std.proofs.Common.{◌≡◌, ℕ, ◌+◌, List, [], ◌∷◌, ◌++◌, length, Some, None, Option, refl, sym, inr}
+use Rattle.std.proofs.Common.{◌≡◌, ℕ, ◌+◌, List, [], ◌∷◌, ◌++◌, length, Some, None, Option, refl, inr}
 use Rattle.protocol.specs.declared.refusals.Refusal.{Refusal}
 use Rattle.plan.specs.Kinds.{Line}
 use Rattle.memory.specs.Contents.{serial_at}
-use Rattle.cases.proofs.Going.{law}
-use Rattle.cases.specs.Steps.{round_at, step_at, chosen}
+use Rattle.cases.specs.Steps.{round_at, step_at}
 use Rattle.cases.specs.declared.steps.Progress.{Progress}
 use Rattle.rules.specs.Turns.{Turn, Announce, Open, Forge, Deliver, Advance, Coin, Effect, refusal, announcing, opening, forging, advancing}
 use Rattle.rules.specs.Runs.{Event, announced, opened, forged, advanced, after, Told}
+use Rattle.rules.proofs.Going.{goes_on}
 use Rattle.rules.proofs.Draining.{Standing, Stands, drained, drains, drained_tells}
 
 -- the event is told, and what is sent comes first
@@ -16,7 +16,7 @@ goes e does s = record { events = e ∷ s.events; held = does.held; waiting = do
 
 -- after each turn at most so many messages are delivered
 module _ (line : Line) (capacity most : ℕ) (coin : Coin) where
-  -- a process advances by a step, if there is one
+  -- a process advances, if it may
   abbrev advances : ℕ → ℕ → Option Progress → Standing → Standing
   advances i c None s = s
   advances i c (Some step) s =
@@ -50,17 +50,7 @@ module _ (line : Line) (capacity most : ℕ) (coin : Coin) where
     by_advance : (i c : ℕ) (o : Option Progress) → step_at line.plan s.held i c ≡ o → refusal line capacity s.held s.waiting (Advance i c) ≡ None → Stands line capacity coin (advances i c o s)
     by_advance i c None by why = run
     by_advance i c (Some step) by why =
-        after run _ (record {
-          step = step;
-          by = by;
-          from = refl;
-          set = chosen line.plan s.held i c;
-          law = (law line.plan s.held i c (Some step) (sym by)).goes step refl;
-          forces = refl;
-          decision = refl;
-          answer = refl;
-          done = record { allowed = why; memory = refl; carrier = λ p. refl; counted = refl };
-        })
+        after run _ (goes_on line capacity s.held s.waiting coin i c step _ _ _ by (record { allowed = why; memory = refl; carrier = λ p. refl; counted = refl }))
 
     by_turn : (turn : Turn) → refusal line capacity s.held s.waiting turn ≡ None → Stands line capacity coin (made turn s)
     by_turn (Announce i b) why = after run _ (record { serial = refl; done = record { allowed = why; memory = refl; carrier = λ p. refl; counted = refl } })
