@@ -40,7 +40,7 @@ pub record Lasts (st next : State) : Type 0 where
   pub said : (s : Subject) (b : ℕ) → st.said s ≡ Some b → next.said s ≡ Some b
   pub accepted : (s : Subject) (i b : ℕ) → accepted_at st i s ≡ Some b → accepted_at next i s ≡ Some b
 
--- no turn takes back what stands
+-- no transition takes back what stands
 abbrev pub Lasting : Type 0
 Lasting = (w : World) (st next : State) → Transition w st next → Lasts st next
 

@@ -1,5 +1,5 @@
--- The machine: processes that broadcast, and any order of delivery. Its turns are relations, since
--- what waits is a bag.
+-- The machine: processes that broadcast, and any order of delivery. Its transitions are relations,
+-- since what waits is a bag.
 use Rattle.std.specs.Prelude.{◌≡◌, ℕ, ◌<◌, Bool, true, false, cond, ◌&&◌, List, [], ◌∷◌, ◌++◌, Some, None, Option, ◌==◌}
 use Rattle.protocol.specs.declared.messages.Message.{Message}
 use Rattle.protocol.specs.declared.messages.Step.{Step}
@@ -39,11 +39,11 @@ same_subject (Ballot i c r) (Ballot j d q) = i == j && (c == d && r == q)
 unfoldable pub spread : ℕ → ℕ → Step → Subject → Option ℕ → Option ℕ → List Message
 spread n i step s None None = []
 spread n i step s None (Some b) = to_all n i step s b
-spread n i step s (Some c) by_transition = []
+spread n i step s (Some c) after = []
 
 -- what process i sends when its record changes
 abbrev pub sends : ℕ → ℕ → Subject → Rec → Rec → List Message
-sends n i s r by_transition = spread n i Echo s r.echoed by_transition.echoed ++ spread n i Ready s r.readied by_transition.readied
+sends n i s r after = spread n i Echo s r.echoed after.echoed ++ spread n i Ready s r.readied after.readied
 
 -- what message m makes of the record that process j keeps of u
 abbrev pub records_after : World → Message → (ℕ → Subject → Rec) → ℕ → Subject → Rec
@@ -55,7 +55,7 @@ abbrev pub responses : World → Message → State → List Message
 responses w m st =
     sends w.n m.addressee m.subject (st.recs m.addressee m.subject) (records_after w m st.recs m.addressee m.subject)
 
--- The states after a turn that leaves the messages ms waiting.
+-- The states after a transition that leaves the messages ms waiting.
 abbrev pub after_telling : Subject → ℕ → List Message → State → State
 after_telling s b ms st = record { recs = st.recs; said = λ u. when (same_subject u s) (st.said u) b; waiting = ms }
 
@@ -65,7 +65,7 @@ leaving ms st = record { recs = st.recs; said = st.said; waiting = ms }
 abbrev pub after_receiving : World → Message → List Message → State → State
 after_receiving w m ms st = record { recs = records_after w m st.recs; said = st.said; waiting = ms }
 
--- A turn leads from a state to another.
+-- A transition leads from a state to another.
 pub data Transition (w : World) (st : State) : State → Type 0 where
   -- A correct originator tells all processes a body, once for each subject.
   tells : (s : Subject) (b : ℕ) (ms : List Message) → CorrectIn w (originator_of s) → st.said s ≡ None → Same ms (to_all w.n (originator_of s) Initial s b ++ st.waiting) → Transition w st (after_telling s b ms st)
@@ -76,7 +76,7 @@ pub data Transition (w : World) (st : State) : State → Type 0 where
   -- A message reaches a correct process.
   delivers : (m : Message) (rest ms : List Message) → CorrectIn w m.addressee → Same st.waiting (m ∷ rest) → Same ms (responses w m st ++ rest) → Transition w st (after_receiving w m ms st)
 
--- the states that turns lead to
+-- the states that transitions lead to
 pub data Reachable (w : World) : State → Type 0 where
   initially : Reachable w start
   by_transition : {st next : State} → Reachable w st → Transition w st next → Reachable w next

@@ -13,7 +13,7 @@ pub fn broadcast_stands()
     ensures counted { CountedBroadcasts }
 {}
 
-/// No turn takes back what was told or accepted.
+/// No transition takes back what was told or accepted.
 pub fn broadcast_lasts()
     ensures { Lasting }
 {}

@@ -9,10 +9,15 @@ pub type RoundBallots = [Option<Ballot>; PROCESSES as usize];
 /// One thing for each of the five ballots.
 #[derive(Clone, Copy, Debug, PartialEq, Eq)]
 pub struct ByBallot<T> {
+    /// For the vote to keep.
     pub keep: T,
+    /// For the vote to release.
     pub release: T,
+    /// For the proposal to keep.
     pub propose_keep: T,
+    /// For the proposal to release.
     pub propose_release: T,
+    /// For the ballot that proposes no side.
     pub open: T,
 }
 

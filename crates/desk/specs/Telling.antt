@@ -62,8 +62,8 @@ module _ (capacity : ℕ) where
   abbrev pub Stands : AtDesk → List Event → Type 0
   Stands d es = StandsAt d.line d.memory d.waiting es
 
-  -- Acting on a form tells events by the rules.
-  -- What led to the desk before leads, with these, to the desk after.
+  -- Acting on a form tells events by the rules. What led to the desk before leads, with these, to
+  -- the desk after.
   pub record Tells (before : AtDesk) (f : Form) (r : Result Said Refusal) (after : AtDesk) : Type 0 where
     pub told : List Event
     pub acted : ActedOn before f r after told

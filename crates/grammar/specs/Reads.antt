@@ -49,9 +49,8 @@ abbrev pub sequel_after : {X : Type 0} → Cursor → Result X FormFault → (X 
 sequel_after d (Ok x) k = sequel d (k x)
 sequel_after d (Err e) k = stopped d e
 
--- From cursor c to d the part G of a form was read, with the answer r. This fixes r, and where d
--- stands, behind a fault too:
--- k can be any, and what becomes of a value that it is told shows in the form that it comes to.
+-- From cursor c to d the part G of a form was read, with the answer r, for every k that goes on
+-- from its value. This fixes r and where d stands, behind a fault too.
 abbrev pub Reads : {X : Type 0} → Cursor → Cursor → Result X FormFault → ((X → Shape) → Shape) → Type 0
 Reads {X} c d r G = (k : X → Shape) → sequel c (G k) ≡ sequel_after d r k
 

@@ -9,6 +9,7 @@ use token::{Cursor, Position, Token};
 /// A token that was taken from a line.
 #[derive(Clone, Copy, Debug, PartialEq, Eq)]
 pub struct Found<'a> {
+    /// The token.
     pub token: Token<'a>,
     /// Where its first byte stands.
     pub place: Position,

@@ -4,7 +4,7 @@ ghost use Rattle.std.proofs.Common.{rules};
 
 use crate::items::Item;
 
-/// A body of any item type, from 0 to 2^64 - 1, not yet read as one. Every body is read as itself.
+/// A body as a value: any number from 0 to 2^64 - 1, read as itself.
 #[derive(Clone, Copy, Debug, PartialEq, Eq)]
 pub struct AnyBody {
     /// What some item type's `pack` gives, or any other number.

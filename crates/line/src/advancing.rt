@@ -97,7 +97,7 @@ fn moved(record: CaseRecord, decides: Option<Side>, phase: u8) -> CaseRecord
     }
 }
 
-// The ballot that the step says, or a vote for the side that the coin shows.
+// The ballot to be said next, or a vote for the side that the coin shows.
 fn said<K: Coin>(next: Option<Ballot>, coin: &K, process: u8, case: u8, phase: u8) -> Ballot
     ensures { result ≡ said next (K.shows coin.now process case phase) }
 {

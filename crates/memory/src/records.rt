@@ -33,6 +33,7 @@ impl Stage {
 /// What a process keeps of one subject, beside the bodies that it heard.
 #[derive(Clone, Copy, Debug, PartialEq, Eq)]
 pub struct BroadcastRecord {
+    /// How far the process is with the subject.
     pub stage: Stage,
 }
 

@@ -8,7 +8,7 @@ use std::marker::PhantomData;
 pub mod lines;
 
 /// A plan whose faulty processes are marked, at most t of them. All others are correct. The state,
-/// `Drafted` or `Opened`, says whether more can be marked.
+/// `Drafted` or `InUse`, says whether more can be marked.
 #[derive(Drop)]
 pub struct Marked<S> {
     plan: Plan,

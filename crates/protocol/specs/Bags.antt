@@ -2,8 +2,7 @@
 use Rattle.std.specs.Prelude.{◌≡◌, ℕ, ◌+◌, Bool, cond, List, [], ◌∷◌, ◌==◌}
 use Rattle.protocol.specs.declared.messages.Message.{Message}
 
--- how many pass the test; by recursion, since proofs take messages one by one and the library's
--- count folds
+-- how many messages pass the test
 unfoldable pub count : (Message → Bool) → List Message → ℕ
 count p [] = 0
 count p (m ∷ ms) = cond (p m) 1 0 + count p ms

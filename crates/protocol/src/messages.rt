@@ -13,7 +13,7 @@ pub enum Step {
     Initial,
     /// Repeats a body that was told.
     Echo,
-    /// Says that enough processes repeated or committed to this body, and commits to it.
+    /// Says that enough processes sent echoes or readies of this body.
     Ready,
 }
 

@@ -26,8 +26,8 @@ abbrev pub printed : List (Result Said ScriptFault) → List ℕ
 printed [] = []
 printed (r ∷ rs) = told said_text r ++ (10 ∷ printed rs)
 
--- The text is that of the replies of a session, one for each line, from a desk with no line open
--- on.
+-- The text is that of the replies of a session, one for each line. It begins at a desk with no
+-- line open.
 pub record Rehearsal (s text : List ℕ) : Type 0 where
   pub replies : List (Result Said ScriptFault)
   pub shows : text ≡ printed replies

@@ -49,7 +49,7 @@ impl<'a> Row<'a> {
         waiting.filter(|m| m.addressee() == process).count() as u64
     }
 
-    /// The same. A larger number is answered as 2^32 - 1.
+    /// How many messages wait for a process. A number above 2^32 - 1 is answered as 2^32 - 1.
     pub fn waiting_for(&self, process: u64) -> u32
         ensures { result ≡ capped (waiting_for process (listed self.now)) }
     {

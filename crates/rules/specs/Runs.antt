@@ -60,8 +60,7 @@ module _ (line : Line) (capacity : ℕ) (h : Held) (ws : List Message) where
     pub step : Progress
     pub by : step_at line.plan h i c ≡ Some step
     pub from : r ≡ round_at line.plan h i c
-    -- the set of ballots that it goes by, and the rule: the step is what this set says, forces and
-    -- decides
+    -- the set of ballots that it goes by, and the rule: it goes on by what this set says
     pub set : ℕ → Bool
     pub law : GoesBy line.plan h i c set step
     pub forces : forced ≡ step.forced

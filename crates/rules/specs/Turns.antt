@@ -113,7 +113,7 @@ moved line i c round decision h =
     let at = case_place line.plan i c in
     with_case at (record { round = round; decision = decision; slip = (case_at h at).slip }) h
 
--- what a process says by its step: where the ballots force neither side, what the coin shows
+-- what a process says next: where the ballots force neither side, what the coin shows
 abbrev pub said : Option Ballot → Side → Ballot
 said None coin = vote coin
 said (Some b) coin = b
@@ -163,8 +163,8 @@ module _ (line : Line) (h : Held) where
   abbrev pub delivering : Message → Effect
   delivering m = effect (reacted line m h).held (replies line.plan.n m (reacted line m h).reaction)
 
-  -- The process leaves round r by a step. The phase of a third round is a third of its number, and
-  -- the coin shows a side for it.
+  -- The process leaves round r and goes on. The phase of a third round is a third of its number,
+  -- and the coin shows a side for it.
   abbrev pub advancing : (coin : Coin) (i c r : ℕ) → Progress → Effect
   advancing coin i c r step =
       effect (moved line i c (r + 1) (decision_after (case_at h (case_place line.plan i c)).decision step.decides (r / 3)) h) (sent_for line (subject_after line i c r) (said step.next (coin i c (r / 3))))

@@ -34,8 +34,8 @@ pub fn run<C: Carrier, K: Coin, I: Item>(
     Ok(line)
 }
 
-/// The same, over a coin that shows every process the same side: so the promise that a shared coin
-/// decides needs no premise on the coin.
+/// Does what `run` does, over a coin that shows every process the same side: so the promise that a
+/// shared coin decides needs no premise on the coin. Refused as `run` is.
 pub fn run_shared<C: Carrier, K: SharedCoin, I: Item>(
     draft: Draft,
     memory: &mut Memory,

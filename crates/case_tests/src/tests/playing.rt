@@ -19,7 +19,7 @@ pub(crate) const RELEASE: Option<u64> = Some(1);
 pub(crate) const FAULTY: Option<u64> = None;
 
 // A message of process 0 in case 0, of some round and step, with a body for each process.
-pub type Lie = (u64, Step, [u64; 4]);
+pub(crate) type Lie = (u64, Step, [u64; 4]);
 
 // How many processes may be faulty, what each process votes, and the side that is decided, where it
 // is sure.
