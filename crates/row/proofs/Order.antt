@@ -1,9 +1,10 @@
 -- Which message is taken.
-use Rattle.std.proofs.Common.{◌≡◌, ℕ, zero, suc, ◌+◌, ◌<◌, ◌≤◌, Bool, true, false, cond, List, [], ◌∷◌, length, get_or, Some, None, Option, Err, Result, sym, refl, ap, ◌∙◌, subst, ⊎_elim, add-zero, zero-add, arith}
-use Rattle.std.specs.List.{remove, slice_get, enumerate_from, filter_map, cons_option}
+use Rattle.std.proofs.Common.{◌≡◌, ℕ, zero, suc, ◌+◌, ◌-◌, ◌<◌, ◌≤◌, Bool, true, false, cond, List, [], ◌∷◌, length, get_or, drop, Some, None, Option, Err, Result, sym, refl, ap, ◌∙◌, subst, ⊎_elim, arith}
+use Rattle.std.specs.List.{remove, slice_get}
 use Rattle.std.specs.Option.{option_map, ok_or}
 use Rattle.std.proofs.lemmas.Option.{slice_get_past, slice_get_cases, none-some, cond_some}
-use Rattle.std.proofs.lemmas.Bool.{eqb-true, cases_lt}
+use Rattle.std.proofs.lemmas.List.{at_drop_more, at_drop_all}
+use Rattle.std.proofs.lemmas.Bool.{eqb-true, cases_lt, cond-true, cond-false}
 use Rattle.protocol.specs.declared.messages.Message.{Message}
 use Rattle.protocol.specs.declared.refusals.Refusal.{Refusal}
 use Rattle.protocol.specs.declared.refusals.Refusal.TheVariants.{NothingWaiting}
@@ -18,30 +19,39 @@ abbrev below : ℕ → List Message → Bool → ℕ → ℕ
 below process ms b zero = cond b 0 (suc (place process zero ms))
 below process ms b (suc k) = suc (place process (cond b k (suc k)) ms)
 
--- the number of a message for the process
-abbrev pub numbered_at : ℕ → ℕ × Message → Option ℕ
-numbered_at process p = cond (addressed process p.1) (Some p.0) None
+module _ (process : ℕ) (m : Message) (ms : List Message) where
+  place_here : addressed process m ≡ true → place process 0 (m ∷ ms) ≡ 0
+  unfolding place
+  place_here h = cond-true (addressed process m) 0 _ h
 
--- those of all, where the first has number i
-abbrev numbered : ℕ → ℕ → List Message → List ℕ
-numbered process i ms = filter_map (numbered_at process) (enumerate_from i ms)
+  place_skip : (k : ℕ) → addressed process m ≡ true → place process (suc k) (m ∷ ms) ≡ suc (place process k ms)
+  unfolding place
+  place_skip k h = ap (λ (j : ℕ). suc (place process j ms)) (cond-true (addressed process m) k (suc k) h)
 
-standing_from : (process i k : ℕ) (ms : List Message) → slice_get (numbered process i ms) k ≡ option_map (λ _. i + place process k ms) (slice_get ms (place process k ms))
+  place_pass : (k : ℕ) → addressed process m ≡ false → place process k (m ∷ ms) ≡ suc (place process k ms)
+  unfolding place
+  place_pass zero h = cond-false (addressed process m) 0 _ h
+  place_pass (suc k) h = ap (λ (j : ℕ). suc (place process j ms)) (cond-false (addressed process m) k (suc k) h)
+
+place_none : (process k : ℕ) → place process k [] ≡ 0
 unfolding place
-standing_from process i k [] = refl
-standing_from process i k (m ∷ ms) = step (addressed process m) k (λ j. standing_from process (i + 1) j ms) where
-  later : (n : ℕ) → option_map (λ _. i + 1 + n) (slice_get ms n) ≡ option_map (λ _. i + suc n) (slice_get ms n)
-  later n = let e : i + 1 + n ≡ i + suc n = omega arith in ap (λ (j : ℕ). option_map (λ _. j) (slice_get ms n)) e
+place_none process k = refl
 
-  step : (b : Bool) (k : ℕ) → ((j : ℕ) → slice_get (numbered process (i + 1) ms) j ≡ option_map (λ _. i + 1 + place process j ms) (slice_get ms (place process j ms)))
-      → slice_get (cons_option (cond b (Some i) None) (numbered process (i + 1) ms)) k ≡ option_map (λ _. i + below process ms b k) (slice_get (m ∷ ms) (below process ms b k))
-  step true zero h = ap Some (sym (add-zero i))
-  step true (suc k) h = h k ∙ later (place process k ms)
-  step false zero h = h zero ∙ later (place process zero ms)
-  step false (suc k) h = h (suc k) ∙ later (place process (suc k) ms)
+-- the steps of a search
+module _ (process : ℕ) (ms : List Message) (i : ℕ) (d : Message) (within : i < length ms) where
+  pub drop_here : addressed process (get_or ms i d) ≡ true → place process 0 (drop i ms) ≡ 0
+  drop_here h = at_drop_more (place process 0) ms i d within ∙ place_here process _ _ h
 
-pub standing_is : (process k : ℕ) (ms : List Message) → slice_get (numbered process 0 ms) k ≡ standing process k ms
-standing_is process k ms = standing_from process 0 k ms ∙ ap (λ (j : ℕ). option_map (λ _. j) (slice_get ms (place process k ms))) (zero-add (place process k ms))
+  pub drop_skip : (k : ℕ) → 0 < k → addressed process (get_or ms i d) ≡ true → place process k (drop i ms) ≡ suc (place process (k - 1) (drop (i + 1) ms))
+  drop_skip k pos h =
+      let e : k ≡ suc (k - 1) = omega arith in
+      ap (λ (j : ℕ). place process j (drop i ms)) e ∙ at_drop_more (place process (suc (k - 1))) ms i d within ∙ place_skip process _ _ (k - 1) h
+
+  pub drop_pass : (k : ℕ) → addressed process (get_or ms i d) ≡ false → place process k (drop i ms) ≡ suc (place process k (drop (i + 1) ms))
+  drop_pass k h = at_drop_more (place process k) ms i d within ∙ place_pass process _ _ k h
+
+pub drop_none : (process k : ℕ) (ms : List Message) (i : ℕ) → length ms ≤ i → place process k (drop i ms) ≡ 0
+drop_none process k ms i h = at_drop_all (place process k) ms i h ∙ place_none process k
 
 module _ (process k : ℕ) (ms : List Message) where
   pub standing_some : (at : ℕ) → standing process k ms ≡ Some at → (place process k ms ≡ at) × (at < length ms)
@@ -51,6 +61,12 @@ module _ (process k : ℕ) (ms : List Message) where
 
     none : (length ms ≤ place process k ms) × (slice_get ms (place process k ms) ≡ None) → (place process k ms ≡ at) × (at < length ms)
     none w = absurd (none-some at (sym (ap (option_map (λ _. place process k ms)) w.1) ∙ h))
+
+  pub standing_at : (at : ℕ) → place process k ms ≡ at → at < length ms → Some at ≡ standing process k ms
+  standing_at at e l = ⊎_elim (λ w. ap Some (sym e) ∙ sym (ap (option_map (λ _. place process k ms)) w.2)) (λ w. absurd (omega (arith, w.0))) (slice_get_cases ms (place process k ms)).1
+
+  pub standing_past : length ms ≤ place process k ms → None ≡ standing process k ms
+  standing_past l = sym (ap (option_map (λ _. place process k ms)) (slice_get_past ms (place process k ms) l))
 
   pub standing_none : standing process k ms ≡ None → length ms ≤ place process k ms
   standing_none h = ⊎_elim (λ w. absurd (none-some _ (sym h ∙ ap (option_map (λ _. place process k ms)) w.2))) (λ w. w.0) (slice_get_cases ms (place process k ms)).1
@@ -98,10 +114,10 @@ past process k (m ∷ ms) h = step (addressed process m) k h (λ j. past process
 
 -- nothing can be taken
 module _ (process k : ℕ) (ms : List Message) (none : waiting_for process ms ≡ 0) where
-  none_answer : answer_at process k ms ≡ Err NothingWaiting
+  pub none_answer : answer_at process k ms ≡ Err NothingWaiting
   none_answer = ap (λ (o : Option Message). ok_or o NothingWaiting) (ap (slice_get ms) (past process k ms none) ∙ slice_get_past ms (length ms) (omega arith))
 
-  none_left : left_at process k ms ≡ ms
+  pub none_left : left_at process k ms ≡ ms
   none_left = ap (remove ms) (past process k ms none) ∙ removed_past ms (length ms) (omega arith)
 
 -- a choice among those that wait for the process is lawful

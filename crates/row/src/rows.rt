@@ -45,8 +45,14 @@ impl<'a> Row<'a> {
     pub fn count_for(&self, process: u64) -> u64
         ensures { result ≡ waiting_for process (listed self.now) }
     {
-        let waiting = self.waiting().iter();
-        waiting.filter(|m| m.addressee() == process).count() as u64
+        let waiting = self.waiting();
+        let mut count = 0;
+        for message in waiting {
+            if message.addressee() == process {
+                count += 1;
+            }
+        }
+        count
     }
 
     /// How many messages wait for a process. A number above 2^32 - 1 is answered as 2^32 - 1.
@@ -76,11 +82,17 @@ impl<'a> Row<'a> {
     fn find(&self, process: u64, number: u64) -> Option<usize>
         ensures { result ≡ standing process number (listed self.now) }
     {
-        self.waiting()
-            .iter()
-            .enumerate()
-            .filter_map(|(at, message)| (message.addressee() == process).then_some(at))
-            .nth(number as usize)
+        let waiting = self.waiting();
+        let mut before = number;
+        for (at, message) in waiting.iter().enumerate() {
+            if message.addressee() == process {
+                if before == 0 {
+                    return Some(at);
+                }
+                before -= 1;
+            }
+        }
+        None
     }
 
     // Takes one message out. The later ones move a place down.

@@ -1,6 +1,6 @@
-use Rattle.std.proofs.Common.{rules, ◌≡◌, cond, sym, ◌∙◌}
+use Rattle.std.proofs.Common.{◌≡◌, cond, sym, ap, ◌∙◌, arith}
 use Rattle.std.specs.List.{count_by}
-use Rattle.std.proofs.iter.runs.Made.{chains}
+use Rattle.std.proofs.lemmas.List.{take_all}
 use Rattle.std.proofs.lemmas.List.Recursion.{is_sum_by}
 use Rattle.protocol.specs.Bags.{count, addressed}
 use Rattle.protocol.proofs.Bags.{count_none, count_cons}
@@ -11,5 +11,7 @@ pub returns : goal.returns
 returns c =
     let ms = listed c.args.self.now in
     let p = addressed c.args.process in
-    let h : c.count.result ≡ count_by p ms = search (rules, chains) in
+    let h : c.loop-message.count ≡ count_by p ms =
+    c.loop-message.invariant.0
+    ∙ ap (count_by p) (take_all c.loop-message.message-index c.waiting-waiting.result.now (omega arith) ∙ c.waiting-waiting.ensures) in
     h ∙ sym (is_sum_by (count p) (λ x. cond (p x) 1 0) (count_none p) (count_cons p) ms)
