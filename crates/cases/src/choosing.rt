@@ -10,8 +10,7 @@ use crate::steps::Progress;
 use ballots::{RoundBallots, count, valid_ballots};
 use memory::{Memory, case_place};
 use plan::Plan;
-use protocol::Ballot;
-use std::array;
+use protocol::{Ballot, PROCESSES};
 
 /// How a process goes on in a case from the round that it is in, by the valid ballots of the
 /// n - t lowest originators that have one. There is nothing if it may not go on: the case is not
@@ -42,5 +41,11 @@ fn count_all(row: &[Option<Ballot>]) -> usize
 fn choose_lowest(row: &RoundBallots, m: usize) -> RoundBallots
     ensures { Holds (among (lowest m (stands (ballot_in row.now))) (ballot_in row.now)) result }
 {
-    array::from_fn(|k| row[k].filter(|_| count_all(&row[..k]) < m))
+    let mut chosen = [None; PROCESSES as usize];
+    let mut seen = 0;
+    for (k, cast) in row.iter().enumerate() {
+        chosen[k] = cast.filter(|_| seen < m);
+        seen += usize::from(cast.is_some());
+    }
+    chosen
 }
