@@ -4,7 +4,7 @@ use Rattle.protocol.specs.declared.messages.Message.{Message}
 use Rattle.protocol.specs.declared.refusals.Refusal.{Refusal}
 use Rattle.plan.specs.Kinds.{Line}
 use Rattle.carrier.specs.Posting.{Posts, none, more}
-use Rattle.memory.specs.Contents.{Held, held}
+use Rattle.memory.specs.Contents.{Held}
 use Rattle.row.specs.Order.{TookAt, left_at, picked}
 use Rattle.cases.specs.Steps.{round_at}
 use Rattle.cases.specs.declared.steps.Progress.{Progress}
@@ -19,8 +19,7 @@ use Rattle.coin.specs.Sides.{word_side}
 use Rattle.form.specs.declared.forms.Form.{Form}
 use Rattle.item.specs.Tags.{tag_body}
 use Rattle.item.specs.declared.tags.Tag.{Tag}
-use Rattle.desk.specs.Desk.{waiting_in, places, state, keeping, asks, desk, desk_after, answered, turned, turns, acts_at, acts}
-use Rattle.desk.specs.declared.desks.Desk.{Desk}
+use Rattle.desk.specs.Desk.{waiting_in, places_of, keeping, asks, desk, desk_after, answered, turned, turns, acts_at, acts}
 use Rattle.desk.specs.Act.{acted, does, takes, goes, doing, acting_by, act}
 
 alike : {r s : Result Answer Refusal} {h k : Held} {ws us : List Message} → r ≡ s → h ≡ k → ws ≡ us → acted r h ws ≡ acted s k us
@@ -92,13 +91,13 @@ module _ {C : Type 0} (listing : C → List Message) where
         sym (ap (act line coin h ws capacity) (sym p.told) ∙ happened p.event next y p.occurs.happens p.occurs.carried ∙ alike (sym p.answer) refl refl)
 
 -- a turn that was made where a line is open, with a coin that shows keep
-pub turn_made : (d : Desk) (line : Line) (form : Form) (ok : Tag → Type 0) (turn : runs.Turn Tag) (word : ℕ) (r : Result Answer Refusal) (next : Held) (after : Basket) → d.line ≡ Some line → Ok (asked tag_body turn) ≡ asks form → word ≡ 0 → Performed waiting_in (behind waiting_in) (picking waiting_in) line (λ process. word_side word) (held d.memory) ok tag_body (places d) turn r d.basket next after → desk_after (answered r) (desk d.line next (waiting_in after)) ≡ acts (places d) (state d) form
-turn_made d line form ok turn word r next after is_open told keeps made =
-    let h = held d.memory in
-    let ws = waiting_in d.basket in
-    let acts_so : acted r next (waiting_in after) ≡ act line keeping h ws (places d) (asked tag_body turn) =
-    performed waiting_in line (λ process. word_side word) h (places d) d.basket ok tag_body turn r next after made
-    ∙ ap (λ (w : ℕ). act line (λ process. word_side w) h ws (places d) (asked tag_body turn)) keeps in
+pub turn_made : (standing : Option Line) (h : Held) (basket : Basket) (line : Line) (form : Form) (ok : Tag → Type 0) (turn : runs.Turn Tag) (word : ℕ) (r : Result Answer Refusal) (next : Held) (after : Basket) → standing ≡ Some line → Ok (asked tag_body turn) ≡ asks form → word ≡ 0 → Performed waiting_in (behind waiting_in) (picking waiting_in) line (λ process. word_side word) h ok tag_body (places_of basket) turn r basket next after → desk_after (answered r) (desk standing next (waiting_in after)) ≡ acts (places_of basket) (desk standing h (waiting_in basket)) form
+turn_made standing h basket line form ok turn word r next after is_open told keeps made =
+    let ws = waiting_in basket in
+    let places = places_of basket in
+    let acts_so : acted r next (waiting_in after) ≡ act line keeping h ws places (asked tag_body turn) =
+    performed waiting_in line (λ process. word_side word) h places basket ok tag_body turn r next after made
+    ∙ ap (λ (w : ℕ). act line (λ process. word_side w) h ws places (asked tag_body turn)) keeps in
     (λ j. desk_after (answered r) (desk (is_open j) next (waiting_in after)))
-    ∙ (ap (turned line) (acts_so ∙ ap (turns (places d) line h ws) told)
-    ∙ ap (λ (l : Option Line). acts_at (places d) l h ws form) (sym is_open))
+    ∙ (ap (turned line) (acts_so ∙ ap (turns places line h ws) told)
+    ∙ ap (λ (l : Option Line). acts_at places l h ws form) (sym is_open))

@@ -1,16 +1,13 @@
-// Acting on a form.
+// A desk, and acting on a form at it.
 ghost use Rattle.std.specs.Prelude.{◌≡◌};
 
-use crate::opening::open;
+use crate::acting::act_on;
 use crate::said::Said;
-use crate::turning::turn_of;
 use carriers::Basket;
-use coin::WordCoin;
 use form::Form;
 use memory::Memory;
 use plan::Line;
 use protocol::Refusal;
-use runs::perform;
 
 /// What the forms of a script act on.
 #[derive(Drop)]
@@ -38,23 +35,6 @@ impl Desk<'_> {
         ensures law { Tells (places self.old) (state self.old) form result (state self.new) }
         ensures kept { places self.new ≡ places self.old }
     {
-        match &self.line {
-            None => {
-                let line = open(&mut self.memory, &self.basket, form)?;
-                self.line = Some(line);
-                Ok(Said::Opened)
-            }
-            Some(line) => {
-                let turn = turn_of(form)?;
-                let answer = perform(
-                    line,
-                    &mut self.memory,
-                    &mut self.basket,
-                    &WordCoin::new(0),
-                    &turn,
-                )?;
-                Ok(Said::Did(answer))
-            }
-        }
+        act_on(&mut self.line, &mut self.memory, &mut self.basket, form)
     }
 }

@@ -2,10 +2,12 @@
 //! basket.
 #![tactic(auto)]
 
+mod acting;
 mod desks;
 mod opening;
 mod said;
 mod turning;
 
+pub use acting::act_on;
 pub use desks::Desk;
 pub use said::Said;
