@@ -9,4 +9,4 @@ mod split;
 pub use fault::ScriptFault;
 pub use linter::{LIMIT, check_line, check_size, lint};
 pub use responder::{Responder, answer};
-pub use split::{Lines, ScriptLine};
+pub use split::{Lines, ScriptLine, line_length};

@@ -25,8 +25,9 @@ fn line_break(rest: &[u8]) -> Option<usize>
     rest.iter().position(|b| *b == b'\n')
 }
 
-// How many bytes stand before the first line's end.
-fn line_length(rest: &[u8]) -> usize
+/// How many bytes stand before the first line's end: before its line break, or all where there is
+/// none.
+pub fn line_length(rest: &[u8]) -> usize
     ensures value { result ≡ line_length rest.now }
     ensures within { result ≤ length rest.now }
 {
