@@ -1,4 +1,4 @@
-pub mod Arrays
+pub mod Filling
 pub mod Counts
 pub mod Draws
 pub mod Sifting

@@ -12,7 +12,6 @@ use crate::tallies::{Allowed, RoundBallots};
 use memory::{Memory, is_within, place_of};
 use plan::Plan;
 use protocol::{PROCESSES, Subject};
-use std::array;
 
 /// The ballots of a round, counted from 1, that are valid at a process. There are none if the
 /// plan has not the process, the case or the round, or if the memory is too small for the plan.
@@ -70,7 +69,11 @@ impl<'a, 'm> AcceptedBallots<'a, 'm> {
         requires { 1 ≤ round }
         ensures { Holds (λ k. sifted allowed (ballots_at self.now.plan.now (held self.now.memory.now) self.now.process self.now.case k (round - 1))) result }
     {
-        array::from_fn(|originator| sift(allowed, self.body(originator as u64, round)))
+        let mut row = [None; PROCESSES as usize];
+        for originator in 0..self.plan.n() {
+            row[originator as usize] = sift(allowed, self.body(originator, round));
+        }
+        row
     }
 
     fn body(&self, originator: u64, round: u64) -> Option<u64>

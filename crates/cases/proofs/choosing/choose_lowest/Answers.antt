@@ -6,7 +6,8 @@ use Rattle.protocol.proofs.Counting.{below_none, below_suc, below_le}
 use Rattle.consensus.specs.Validity.{lowest}
 use Rattle.ballots.specs.Tallies.{ballot_in}
 use Rattle.cases.specs.Steps.{stands}
-use Rattle.cases.proofs.Lowest.{chosen_at, none_chosen, filled_none, filled_more, filled_all}
+use Rattle.ballots.proofs.Filling.{filled_none, filled_more, filled_all}
+use Rattle.cases.proofs.Lowest.{chosen_at, none_chosen}
 use Rattle.cases.proofs.choosing.choose_lowest.Goals as goal
 
 pub loop-k-init : goal.loop-k-init
@@ -34,5 +35,5 @@ pub returns : goal.returns
 unfolding lowest
 returns c =
     let row = c.args.row.now in
-    filled_all _ c.loop-k.chosen (search rules)
+    filled_all c.loop-k.k _ c.loop-k.chosen c.loop-k.invariant.1
     (λ k l. none_chosen (lowest c.args.m (stands (ballot_in row)) k) (ballot_in row k) (get_or_past row k None (omega (arith, c.told-row))))
