@@ -34,7 +34,13 @@ pub fn next_step(plan: &Plan, memory: &Memory, process: u64, case: u64) -> Optio
 fn count_all(row: &[Option<Ballot>]) -> usize
     ensures { result ≡ count_by is_some row.now }
 {
-    row.iter().filter(|cast| cast.is_some()).count()
+    let mut count = 0;
+    for cast in row {
+        if cast.is_some() {
+            count += 1;
+        }
+    }
+    count
 }
 
 // The first m ballots of a row.
